@@ -1,0 +1,4 @@
+pub mod Symbols
+pub mod Words
+pub mod Records
+pub mod Text

@@ -1,0 +1,6 @@
+// Words of modules, told one module at a time: the vocabulary of every crate.
+pub mod drawn;
+pub mod fault;
+pub mod letters;
+pub mod module;
+pub mod source;
