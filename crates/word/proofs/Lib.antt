@@ -1,2 +1,5 @@
 pub mod Sound
 pub mod Shown
+pub mod Digits
+pub mod Splits
+pub mod When

@@ -1,0 +1,5 @@
+pub mod Listing
+pub mod Cutting
+pub mod Forming
+pub mod Telling
+pub mod Lawfully

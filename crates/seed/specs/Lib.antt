@@ -1,0 +1,4 @@
+pub mod Seeds
+pub mod Spare
+pub mod Parts
+pub mod Left
