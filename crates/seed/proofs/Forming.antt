@@ -66,6 +66,7 @@ formed (b ∷ c ∷ bs) s e = go (is-letter b) refl (closed bs) e
     listed : (r : Option (List ℤ)) → ((zs : List ℤ) → r ≡ Some zs → length zs ≤ 3) → is-letter b ≡ true → mapped (λ zs. record { letter = b; params = zs }) r ≡ Some s → may-have (s .letter) (length (s .params)) ≡ true
     listed None few letter q = let z : _≡_ {A = ℕ} 0 1 = cc in absurd (omega arith)
     listed (Some zs) few letter q = let same : record { letter = b; params = zs } ≡ s = cc in rw (← same) (letter-counts b (length zs) letter (few zs refl))
+
     go : (t : Bool) → is-letter b ≡ t → (o : Option (List ℕ)) → cond t (with-list b o) None ≡ Some s → may-have (s .letter) (length (s .params)) ≡ true
     go true p None q = let z : _≡_ {A = ℕ} 0 1 = cc in absurd (omega arith)
     go true p (Some l) q = listed (parameters l) (few-read (integers (split 44 l))) p q

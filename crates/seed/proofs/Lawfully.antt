@@ -8,11 +8,12 @@ use lib.Dec.{eqb, leb, ltb}
 use lib.ListN.{length, drop, length-drop}
 use Rattle.std.proofs.shelf.Tests.{and-from, le-leb, leb-true, ltb-false, eqb-true, eq-eqb}
 use Rattle.std.proofs.shelf.Ways.{tells as told}
-use Rattle.word.specs.declared.fault.Fault.{Fault}
+use Rattle.std.specs.declared.option.Option.{Option}
+use Rattle.std.specs.declared.option.Option.the-variants.{Some, None}
 use Rattle.word.specs.Symbols.{Symbol, is-open, is-close, is-bracket, is-letter, all-in-range, may-have, valid}
 use Rattle.word.specs.Words.{Ending, clean, broken, Told, Meaning, after, all-valid, nested, in-bounds, Lawful}
 use Rattle.word.specs.Text.{glued}
-use Rattle.seed.specs.Seeds.{cut, Outcome, tells, wrong, outcome, stopped, onto, reads}
+use Rattle.seed.specs.Seeds.{cut, form, Outcome, tells, wrong, judged, outcome, stopped, onto, reads}
 use Rattle.seed.specs.Left.{left}
 use Rattle.seed.proofs.Forming.{formed}
 use Rattle.seed.proofs.Telling.{Proper, proper, stays-shallow}
@@ -70,7 +71,17 @@ onto-fair d place n own s t low p f = record {
 
 -- the causes that a module can have
 small-cause : (d : ℕ) (own : List ℕ) (cause : ℕ) → outcome d own ≡ wrong cause → cause ≤ 255
-small-cause d own cause e = ?
+small-cause d own cause e = from (form own) e
+  where
+    from : (o : Option Symbol) → judged d o ≡ wrong cause → cause ≤ 255
+    from None q = let c : 21 ≡ cause = cc in omega arith
+    from (Some s) q = go (all-in-range (s .params)) (is-close (s .letter) && eqb d 0) (is-open (s .letter) && leb 32 d) q
+      where
+        go : (r a b : Bool) → cond r (cond a (wrong 23) (cond b (wrong 24) (tells s))) (wrong 22) ≡ wrong cause → cause ≤ 255
+        go false a b q = let c : 22 ≡ cause = cc in omega arith
+        go true true b q = let c : 23 ≡ cause = cc in omega arith
+        go true false true q = let c : 24 ≡ cause = cc in omega arith
+        go true false false q = let z : _≡_ {A = ℕ} 0 1 = cc in absurd (omega arith)
 
 fair : (d place : ℕ) (cs : List (List ℕ)) → d ≤ 32 → 1 ≤ place → place + length cs ≤ 16_000_001 → Fair d place (length cs) (reads d place cs)
 fair d place [] low one most = go (eqb d 0) refl
@@ -89,6 +100,7 @@ lawfully text at n d within counted low = go (ltb 65_536 (length text)) refl
   where
     from : (t : Told) (k : ℕ) → k ≤ 16_000_000 → Fair d (suc n) k t → Lawful (record { told = t; opened = d; generation = 0 })
     from t k most f = record { modules = f .modules; brackets = f .brackets; ending = f .ending; few = omega (arith, f .few); shallow = low; generation = omega arith }
+
     go : (b : Bool) → ltb 65_536 (length text) ≡ b → Lawful (record { told = let r : Told = elim b [ true ↦ stopped 20 1 | false ↦ reads d (suc n) (cut false (drop at text)) ] in r; opened = d; generation = 0 })
     go true e = let f = stopped-fair d 1 20 0 low (omega arith) (omega arith) (omega arith) in record { modules = f .modules; brackets = f .brackets; ending = f .ending; few = omega arith; shallow = low; generation = omega arith }
     go false e =

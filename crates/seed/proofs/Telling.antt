@@ -61,8 +61,8 @@ module _ (text : List ℕ) (short : length text ≤ 65_536) where
     goes-on m d′ e is =
         let s = symbol-of m in
         let rest : left text (at + size) (n + 1) d′ .told ≡ reads (after d s) (suc (suc n)) (cut false (drop size (drop at text))) =
-            still (at + size) (n + 1) d′
-            ∙ (λ i. reads (is i) (suc (add-one n i)) (cut false (sym (drop-drop size at text) i))) in
+        still (at + size) (n + 1) d′
+        ∙ (λ i. reads (is i) (suc (add-one n i)) (cut false (sym (drop-drop size at text) i))) in
         let t : left text at n d .told ≡ onto s (reads (after d s) (suc (suc n)) (cut false (drop size (drop at text)))) = here ∙ reads-tells d (suc n) (take size (drop at text)) (cut false (drop size (drop at text))) s e in
         (ap (λ (w : Told). w .modules) t ∙ ap (λ (w : Told). s ∷ w .modules) (sym rest), ap (λ (w : Told). w .ending) rest ∙ sym (ap (λ (w : Told). w .ending) t), is, refl)
 

@@ -68,7 +68,10 @@ fn read_form(own: &[u8]) -> Option<Draft>
     let letter = own[0];
     if own.len() == 1 {
         if is_bracket(letter) || is_letter(letter) {
-            return Some(Draft { letter, parameters: Parameters::none() });
+            return Some(Draft {
+                letter,
+                parameters: Parameters::none(),
+            });
         }
         return None;
     }

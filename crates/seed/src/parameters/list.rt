@@ -37,7 +37,12 @@ impl Parameters {
     pub fn none() -> Parameters
         ensures { λ r. ⌜ numbers r ≡ [] ⌝ }
     {
-        Parameters { count: 0, a: 0, b: 0, c: 0 }
+        Parameters {
+            count: 0,
+            a: 0,
+            b: 0,
+            c: 0,
+        }
     }
 
     // These and one more, unless there are three.
@@ -45,9 +50,24 @@ impl Parameters {
         ensures { λ r. ⌜ BySome r (self .count ≡ 3) (λ p. numbers p ≡ numbers self ++ (z ∷ [])) ⌝ }
     {
         match self.count {
-            0 => Some(Parameters { count: 1, a: z, b: 0, c: 0 }),
-            1 => Some(Parameters { count: 2, a: self.a, b: z, c: 0 }),
-            2 => Some(Parameters { count: 3, a: self.a, b: self.b, c: z }),
+            0 => Some(Parameters {
+                count: 1,
+                a: z,
+                b: 0,
+                c: 0,
+            }),
+            1 => Some(Parameters {
+                count: 2,
+                a: self.a,
+                b: z,
+                c: 0,
+            }),
+            2 => Some(Parameters {
+                count: 3,
+                a: self.a,
+                b: self.b,
+                c: z,
+            }),
             _ => None,
         }
     }

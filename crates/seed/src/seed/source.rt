@@ -2,11 +2,11 @@ ghost use mathlib.Core.Path.{_≡_};
 ghost use denote.Ref.{now};
 ghost use Rattle.seed.specs.Seeds.{seeded};
 ghost use Rattle.seed.specs.Left.{left};
-use super::Seed;
 use super::super::module::number_of;
 use super::super::module::opened_after;
 use super::super::module::own_len;
 use super::super::module::read_module;
+use super::Seed;
 use word::drawn::Drawn;
 use word::fault::Fault;
 use word::source::Source;
@@ -19,7 +19,12 @@ impl<'a> Seed<'a> {
     pub fn new(text: &'a [u8]) -> Seed<'a>
         ensures { λ r. ⌜ left (now (r .text)) (r .at) (r .told) (r .opened) ≡ seeded (now (text .entry)) ⌝ }
     {
-        Seed { text, at: 0, told: 0, opened: 0 }
+        Seed {
+            text,
+            at: 0,
+            told: 0,
+            opened: 0,
+        }
     }
 }
 
@@ -29,14 +34,22 @@ pub impl<'a> Source for Seed<'a> as SeedSource {
     fn draw(&mut self) -> Drawn {
         let text = self.text;
         if text.len() > LONGEST {
-            return Drawn::Broken(Fault { cause: 20, generation: 0, place: 1 });
+            return Drawn::Broken(Fault {
+                cause: 20,
+                generation: 0,
+                place: 1,
+            });
         }
         let place = self.told + 1;
         if self.at == text.len() {
             if self.opened == 0 {
                 return Drawn::Clean;
             }
-            return Drawn::Broken(Fault { cause: 25, generation: 0, place });
+            return Drawn::Broken(Fault {
+                cause: 25,
+                generation: 0,
+                place,
+            });
         }
         let rest = &text[self.at..];
         let size = own_len(rest);
@@ -47,7 +60,11 @@ pub impl<'a> Source for Seed<'a> as SeedSource {
                 self.opened = opened_after(self.opened, module);
                 Drawn::Next(module)
             }
-            Err(cause) => Drawn::Broken(Fault { cause: number_of(cause), generation: 0, place }),
+            Err(cause) => Drawn::Broken(Fault {
+                cause: number_of(cause),
+                generation: 0,
+                place,
+            }),
         }
     }
 

@@ -41,5 +41,5 @@ returns-in-None c =
     let fc : SFits w32 (p .c) = search needs in
     let form = sym (c .in-Some .ensures tt) in
     let off : sound (draft .letter) (p .count) (p .a) (p .b) (p .c) ≡ false =
-        sym (λ i. sound (draft .letter) (p .count) (toZ-ofZ w32 (p .a) fa i) (toZ-ofZ w32 (p .b) fb i) (toZ-ofZ w32 (p .c) fc i)) ∙ c .in-None .ensures tt in
+    sym (λ i. sound (draft .letter) (p .count) (toZ-ofZ w32 (p .a) fa i) (toZ-ofZ w32 (p .b) fb i) (toZ-ofZ w32 (p .c) fc i)) ∙ c .in-None .ensures tt in
     sym (judged-by (c .args .opened) own (drafted draft) false form (sound-read own (draft .letter) p form ∙ off))
