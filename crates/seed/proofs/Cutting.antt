@@ -35,7 +35,7 @@ first-further c b l r ne f = record { within = omega (arith, f .within); before 
     before zero h e = ne e
     before (suc k) h e = f .before k (omega arith) e
 
-cut-three : (l : List ℕ) (r : ℕ) → 1 < length l → getD l 1 0 ≡ 40 → First 41 (drop 2 l) r → cut false l ≡ take (suc (suc (suc r))) l ∷ cut false (drop (suc (suc (suc r))) l)
+pub cut-three : (l : List ℕ) (r : ℕ) → 1 < length l → getD l 1 0 ≡ 40 → First 41 (drop 2 l) r → cut false l ≡ take (suc (suc (suc r))) l ∷ cut false (drop (suc (suc (suc r))) l)
 cut-three [] r two e f = absurd (omega arith)
 cut-three (b ∷ []) r two e f = absurd (omega arith)
 cut-three (b ∷ c ∷ l) r two e f =

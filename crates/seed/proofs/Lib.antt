@@ -3,3 +3,4 @@ pub mod Cutting
 pub mod Forming
 pub mod Telling
 pub mod Lawfully
+pub mod Spelling

@@ -26,7 +26,7 @@ reads-wrong : (d place : ℕ) (own : List ℕ) (rest : List (List ℕ)) (cause :
 reads-wrong d place own rest cause e =
     ap (λ (o : Outcome). let t : Told = elim o [ wrong x ↦ stopped x place | tells s ↦ onto s (reads (after d s) (suc place) rest) ] in t) e
 
-reads-tells : (d place : ℕ) (own : List ℕ) (rest : List (List ℕ)) (s : Symbol) → outcome d own ≡ tells s → reads d place (own ∷ rest) ≡ onto s (reads (after d s) (suc place) rest)
+pub reads-tells : (d place : ℕ) (own : List ℕ) (rest : List (List ℕ)) (s : Symbol) → outcome d own ≡ tells s → reads d place (own ∷ rest) ≡ onto s (reads (after d s) (suc place) rest)
 reads-tells d place own rest s e =
     ap (λ (o : Outcome). let t : Told = elim o [ wrong x ↦ stopped x place | tells y ↦ onto y (reads (after d y) (suc place) rest) ] in t) e
 

@@ -2,3 +2,4 @@ pub mod Seeds
 pub mod Spare
 pub mod Parts
 pub mod Left
+pub mod Written

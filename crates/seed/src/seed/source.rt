@@ -2,6 +2,7 @@ ghost use mathlib.Core.Path.{_≡_};
 ghost use denote.Ref.{now};
 ghost use Rattle.seed.specs.Seeds.{seeded};
 ghost use Rattle.seed.specs.Left.{left};
+ghost use Rattle.seed.specs.Written.{Reads-back};
 use super::super::module::number_of;
 use super::super::module::opened_after;
 use super::super::module::own_len;
@@ -17,7 +18,8 @@ pub const LONGEST: usize = 65_536;
 impl<'a> Seed<'a> {
     /// The source of a seed text, whatever bytes it has.
     pub fn new(text: &'a [u8]) -> Seed<'a>
-        ensures { λ r. ⌜ left (now (r .text)) (r .at) (r .told) (r .opened) ≡ seeded (now (text .entry)) ⌝ }
+        ensures meaning { λ r. ⌜ left (now (r .text)) (r .at) (r .told) (r .opened) ≡ seeded (now (text .entry)) ⌝ }
+        ensures law { λ r. ⌜ Reads-back (now (text .entry)) (left (now (r .text)) (r .at) (r .told) (r .opened) .told) ⌝ }
     {
         Seed {
             text,

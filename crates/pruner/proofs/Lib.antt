@@ -1,0 +1,3 @@
+pub mod CutOff
+pub mod Agreement
+pub mod Lawful
