@@ -2,3 +2,6 @@
 mod module;
 mod parameters;
 pub mod seed;
+
+#[cfg(test)]
+mod tests;
