@@ -2,6 +2,5 @@
 mod module;
 mod parameters;
 pub mod seed;
-
 #[cfg(test)]
 mod tests;

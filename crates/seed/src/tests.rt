@@ -20,7 +20,11 @@ fn ends(text: &[u8]) -> (Drawn, Drawn) {
 }
 
 fn stops(text: &[u8], cause: u8, place: u32) -> Result<(), Fail> {
-    let fault = Drawn::Broken(Fault { cause, generation: 0, place });
+    let fault = Drawn::Broken(Fault {
+        cause,
+        generation: 0,
+        place,
+    });
     let (first, again) = ends(text);
     check_eq(first, fault)?;
     check_eq(again, fault)

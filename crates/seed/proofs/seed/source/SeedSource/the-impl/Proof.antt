@@ -1,576 +1,106 @@
-use Rattle.seed.proofs.seed.source.SeedSource.draw.Met
-use Rattle.seed.proofs.seed.source.SeedSource.draw.Symbol
-use Rattle.seed.proofs.seed.source.SeedSource.generation.Met as Met'
-use Rattle.seed.proofs.seed.source.SeedSource.generation.Symbol as Symbol'
-use Rattle.seed.proofs.seed.source.SeedSource.open_brackets.Met as Met''
-use Rattle.seed.proofs.seed.source.SeedSource.open_brackets.Symbol as Symbol''
-use Rattle.seed.proofs.seed.source.SeedSource.the-impl.Statement
+-- `SeedSource` meets its trait. The checker writes such a proof itself where the type has no lifetime or the trait no law; here
+-- `lawful` is the law, and each method's own contract is carried to the trait's.
+use mathlib.Core.Bool.{true}
+use mathlib.Core.List.{[]}
+use mathlib.Core.Path.{refl}
+use Prim.Native.Nat.{ℕ}
+use mir.Syntax.{Callee, erased, method}
+use base.Logic.{id⊢, emp}
+use contract.BorrowLft.{⊑-refl, ⊑-trans}
+use contract.Running.{givenOf, within}
+use denote.Param.{layouts}
+use denote.Ref.{NamedLft}
+use denote.Triple.End.{outs}
+use denote.Triple.Impl.{implements, inside, insides-in, hidden, to-emp}
+use denote.Triple.Less.{less}
+use denote.Triple.Spec.{tripleOf}
+use denote.Triple.Table.{run-framed, widened}
+use Rattle.word.specs.contracts.source.Source.draw as asked-draw
+use Rattle.seed.specs.contracts.seed.source.SeedSource.draw as own-draw
+use Rattle.seed.proofs.seed.source.SeedSource.draw.Met as met-draw
+use Rattle.seed.proofs.seed.source.SeedSource.draw.Symbol as sym-draw
+use Rattle.word.specs.contracts.source.Source.open_brackets as asked-brackets
+use Rattle.seed.specs.contracts.seed.source.SeedSource.open_brackets as own-brackets
+use Rattle.seed.proofs.seed.source.SeedSource.open_brackets.Met as met-brackets
+use Rattle.seed.proofs.seed.source.SeedSource.open_brackets.Symbol as sym-brackets
+use Rattle.word.specs.contracts.source.Source.generation as asked-generation
+use Rattle.seed.specs.contracts.seed.source.SeedSource.generation as own-generation
+use Rattle.seed.proofs.seed.source.SeedSource.generation.Met as met-generation
+use Rattle.seed.proofs.seed.source.SeedSource.generation.Symbol as sym-generation
+use Rattle.seed.specs.contracts.seed.source.SeedSource.the-impl.{ghosts, dict}
+use Rattle.seed.specs.contracts.seed.Seed.{the-row}
 use Rattle.seed.proofs.Lawfully.{lawfully}
-use Rattle.seed.specs.contracts.seed.Seed
-use Rattle.seed.specs.contracts.seed.source.SeedSource.draw
-use Rattle.seed.specs.contracts.seed.source.SeedSource.generation
-use Rattle.seed.specs.contracts.seed.source.SeedSource.open_brackets
-use Rattle.seed.specs.contracts.seed.source.SeedSource.the-impl
-use Rattle.word.specs.contracts.source.Source.draw as draw'
-use Rattle.word.specs.contracts.source.Source.generation as generation'
-use Rattle.word.specs.contracts.source.Source.open_brackets as «open_brackets'»
-use base.Logic
-use contract.BorrowLft
-use contract.Running
-use denote.Param
-use denote.Ref
-use denote.Triple.End
-use denote.Triple.Impl
-use denote.Triple.Less
-use denote.Triple.Spec
-use denote.Triple.Table
-use mathlib.Core.Bool
-use mathlib.Core.List
-use mathlib.Core.Path as Path'
-use mir.Syntax
+use Rattle.seed.proofs.seed.source.SeedSource.the-impl.Statement.{statement}
 
-ruleset ends = (Logic.id⊢, Impl.to-emp, Less.less)
+ruleset ends = (id⊢, to-emp, less)
 
-ruleset parts = (
-  BorrowLft.⊑-refl,
-  BorrowLft.⊑-static,
-  BorrowLft.⊑-meet,
-  Impl.in-left,
-  Impl.in-right,
-)
+abbrev key : ℕ → Callee
+key i = method dict i (layouts [] tt)
 
-pub bound : Statement.statement
-bound = λ γ″' x'5 x'6 x'7 x'8 M' 𝓤' H' 𝓜' 𝓖' 𝓡'. let x'9 : Ref.NamedLft = record {
-  mir = Syntax.erased;
-  lft = x'8;
-} in record {
-  lawful = λ s. lawfully (s .text .now) (s .at) (s .told) (s .opened) (s .within) (s .counted) (s .shallow);
-  draw = Impl.implements
-      𝓤'
-      H'
-      (𝓖' .A)
-      draw.signature
-      2
-      (draw'.ended (Seed.the-row x'9) the-impl.ghosts the-impl.dict .signature .outlives)
-      (λ τs'. (τs' .0, (x'9 .lft, tt)))
-      (Running.givenOf 𝓤' H' 𝓜' 𝓖')
-      (𝓡' .run (γ″' (Syntax.method the-impl.dict 0 (Param.layouts List.[] tt))))
-      (Table.run-framed
-      𝓤'
-      H'
-      𝓜'
-      𝓡'
-      (γ″' (Syntax.method the-impl.dict 0 (Param.layouts List.[] tt))))
-      (draw.spec 𝓤' H' (𝓖' .A) (𝓜' .mem) (𝓡' .returns))
-      (λ τs'' a'. record {
-        ghost = draw'.spec
-            (Seed.the-row x'9)
-            the-impl.ghosts
-            the-impl.dict
-            𝓤'
-            H'
-            (𝓖' .A)
-            (𝓜' .mem)
-            (𝓡' .returns)
-            τs''
-            a' .ghost;
-        requires = λ y'. draw'.spec
-            (Seed.the-row x'9)
-            the-impl.ghosts
-            the-impl.dict
-            𝓤'
-            H'
-            (𝓖' .A)
-            (𝓜' .mem)
-            (𝓡' .returns)
-            τs''
-            a' .requires
-            y';
-        ensures = draw'.spec
-            (Seed.the-row x'9)
-            the-impl.ghosts
-            the-impl.dict
-            𝓤'
-            H'
-            (𝓖' .A)
-            (𝓜' .mem)
-            (𝓡' .returns)
-            τs''
-            a' .ensures;
-      })
-      1
-      (λ τs'3. (τs'3 .1 .0, tt))
-      (λ τs'4. (Seed.the-row x'9 .lives, tt))
-      ((0, tt), ((1, tt), tt))
-      (λ τs'5 a'' y''. Logic.emp 𝓤')
-      (λ τs'6 a'3 y'3. Logic.id⊢
-      𝓤'
-      (draw'.spec
-      (Seed.the-row x'9)
-      the-impl.ghosts
-      the-impl.dict
-      𝓤'
-      H'
-      (𝓖' .A)
-      (𝓜' .mem)
-      (𝓡' .returns)
-      τs'6
-      a'3 .requires
-      y'3))
-      (λ τs'7 h'. (
-        (
-          BorrowLft.⊑-refl (τs'7 .0),
-          (
-            BorrowLft.⊑-trans
-                (τs'7 .1 .0)
-                (τs'7 .1 .0)
-                (x'9 .lft)
-                (BorrowLft.⊑-refl (τs'7 .1 .0))
-                (BorrowLft.⊑-trans
-                (τs'7 .1 .0)
-                (Seed.the-row x'9 .lives)
-                (x'9 .lft)
-                (h' .1 .0)
-                (search Impl.inside depth 24 fits 20000)),
-            tt,
-          ),
-        ),
-        (
-          BorrowLft.⊑-trans
-              (τs'7 .0)
-              (τs'7 .1 .0)
-              (x'9 .lft)
-              (BorrowLft.⊑-trans
-              (τs'7 .0)
-              (τs'7 .0)
-              (τs'7 .1 .0)
-              (BorrowLft.⊑-refl (τs'7 .0))
-              (h' .0 .0))
-              (BorrowLft.⊑-trans
-              (τs'7 .1 .0)
-              (Seed.the-row x'9 .lives)
-              (x'9 .lft)
-              (h' .1 .0)
-              (search Impl.inside depth 24 fits 20000)),
-          tt,
-        ),
-      ))
-      (λ τs'8 a'4 y'4. y'4)
-      (λ τs'9 h'' a'5 y'5. Impl.insides-in 𝓤' 0 tt tt (Logic.emp 𝓤') tt)
-      (λ τs'10 a'6 y'6 r'. Impl.hidden
-      2
-      (τs'10 .0, (x'9 .lft, tt))
-      𝓤'
-      H'
-      (𝓖' .A)
-      (draw.signature .params)
-      (draw.ended .kept)
-      (Bool.true, tt)
-      a'6
-      (λ ws'. draw.clauses
-      𝓤'
-      H'
-      (𝓖' .A)
-      (𝓜' .mem)
-      (𝓡' .returns)
-      (τs'10 .0, (x'9 .lft, tt))
-      a'6 .ensures
-      y'6
-      r'
-      (End.outs {n = 2}
-      (τs'10 .0, (x'9 .lft, tt))
-      (draw.ended .signature .params)
-      (draw.ended .kept)
-      a'6
-      ws'))
-      (λ ws''. draw'.clauses
-      (Seed.the-row x'9)
-      the-impl.ghosts
-      the-impl.dict
-      𝓤'
-      H'
-      (𝓖' .A)
-      (𝓜' .mem)
-      (𝓡' .returns)
-      τs'10
-      a'6 .ensures
-      y'6
-      r'
-      (End.outs {n = 2}
-      τs'10
-      (draw'.ended (Seed.the-row x'9) the-impl.ghosts the-impl.dict .signature .params)
-      (draw'.ended (Seed.the-row x'9) the-impl.ghosts the-impl.dict .kept)
-      a'6
-      ws''))
-      λ x'10. search ends depth 24 fits 20000)
-      (Table.widened
-      𝓤'
-      H'
-      (Spec.tripleOf
-      𝓤'
-      H'
-      (𝓖' .A)
-      draw.signature
-      (draw.spec 𝓤' H' (𝓖' .A) (𝓜' .mem) (𝓡' .returns)))
-      𝓜'
-      𝓡'
-      γ″'
-      (γ″' Symbol.name)
-      (γ″' (Syntax.method the-impl.dict 0 (Param.layouts List.[] tt)))
-      (Symbol.as-method
-      γ″'
-      x'5
-      (Syntax.method the-impl.dict 0 (Param.layouts List.[] tt))
-      Path'.refl)
-      (Met.met 𝓤' H' 𝓜' 𝓖' (Running.within 𝓤' H' 𝓜' 𝓡' γ″') x'5));
-  «open_brackets» = Impl.implements
-      𝓤'
-      H'
-      (𝓖' .A)
-      open_brackets.signature
-      2
-      (open_brackets'.ended (Seed.the-row x'9) the-impl.ghosts the-impl.dict .signature .outlives)
-      (λ τs'11. (τs'11 .0, (x'9 .lft, tt)))
-      (Running.givenOf 𝓤' H' 𝓜' 𝓖')
-      (𝓡' .run (γ″' (Syntax.method the-impl.dict 1 (Param.layouts List.[] tt))))
-      (Table.run-framed
-      𝓤'
-      H'
-      𝓜'
-      𝓡'
-      (γ″' (Syntax.method the-impl.dict 1 (Param.layouts List.[] tt))))
-      (open_brackets.spec 𝓤' H' (𝓖' .A) (𝓜' .mem) (𝓡' .returns))
-      (λ τs'12 a'7. record {
-        ghost = open_brackets'.spec
-            (Seed.the-row x'9)
-            the-impl.ghosts
-            the-impl.dict
-            𝓤'
-            H'
-            (𝓖' .A)
-            (𝓜' .mem)
-            (𝓡' .returns)
-            τs'12
-            a'7 .ghost;
-        requires = λ y'7. open_brackets'.spec
-            (Seed.the-row x'9)
-            the-impl.ghosts
-            the-impl.dict
-            𝓤'
-            H'
-            (𝓖' .A)
-            (𝓜' .mem)
-            (𝓡' .returns)
-            τs'12
-            a'7 .requires
-            y'7;
-        ensures = open_brackets'.spec
-            (Seed.the-row x'9)
-            the-impl.ghosts
-            the-impl.dict
-            𝓤'
-            H'
-            (𝓖' .A)
-            (𝓜' .mem)
-            (𝓡' .returns)
-            τs'12
-            a'7 .ensures;
-      })
-      1
-      (λ τs'13. (τs'13 .1 .0, tt))
-      (λ τs'14. (Seed.the-row x'9 .lives, tt))
-      ((0, tt), ((1, tt), tt))
-      (λ τs'15 a'8 y'8. Logic.emp 𝓤')
-      (λ τs'16 a'9 y'9. Logic.id⊢
-      𝓤'
-      (open_brackets'.spec
-      (Seed.the-row x'9)
-      the-impl.ghosts
-      the-impl.dict
-      𝓤'
-      H'
-      (𝓖' .A)
-      (𝓜' .mem)
-      (𝓡' .returns)
-      τs'16
-      a'9 .requires
-      y'9))
-      (λ τs'17 h'3. (
-        (
-          BorrowLft.⊑-refl (τs'17 .0),
-          (
-            BorrowLft.⊑-trans
-                (τs'17 .1 .0)
-                (τs'17 .1 .0)
-                (x'9 .lft)
-                (BorrowLft.⊑-refl (τs'17 .1 .0))
-                (BorrowLft.⊑-trans
-                (τs'17 .1 .0)
-                (Seed.the-row x'9 .lives)
-                (x'9 .lft)
-                (h'3 .1 .0)
-                (search Impl.inside depth 24 fits 20000)),
-            tt,
-          ),
-        ),
-        (
-          BorrowLft.⊑-trans
-              (τs'17 .0)
-              (τs'17 .1 .0)
-              (x'9 .lft)
-              (BorrowLft.⊑-trans
-              (τs'17 .0)
-              (τs'17 .0)
-              (τs'17 .1 .0)
-              (BorrowLft.⊑-refl (τs'17 .0))
-              (h'3 .0 .0))
-              (BorrowLft.⊑-trans
-              (τs'17 .1 .0)
-              (Seed.the-row x'9 .lives)
-              (x'9 .lft)
-              (h'3 .1 .0)
-              (search Impl.inside depth 24 fits 20000)),
-          tt,
-        ),
-      ))
-      (λ τs'18 a'10 y'10. y'10)
-      (λ τs'19 h'4 a'11 y'11. Impl.insides-in 𝓤' 0 tt tt (Logic.emp 𝓤') tt)
-      (λ τs'20 a'12 y'12 r''. Impl.hidden
-      2
-      (τs'20 .0, (x'9 .lft, tt))
-      𝓤'
-      H'
-      (𝓖' .A)
-      (open_brackets.signature .params)
-      (open_brackets.ended .kept)
-      (Bool.true, tt)
-      a'12
-      (λ ws'3. open_brackets.clauses 𝓤' H' (𝓖' .A) (𝓜' .mem) (𝓡' .returns) (
-        τs'20 .0,
-        (x'9 .lft, tt),
-      )
-      a'12 .ensures
-      y'12
-      r''
-      (End.outs {n = 2}
-      (τs'20 .0, (x'9 .lft, tt))
-      (open_brackets.ended .signature .params)
-      (open_brackets.ended .kept)
-      a'12
-      ws'3))
-      (λ ws'4. open_brackets'.clauses
-      (Seed.the-row x'9)
-      the-impl.ghosts
-      the-impl.dict
-      𝓤'
-      H'
-      (𝓖' .A)
-      (𝓜' .mem)
-      (𝓡' .returns)
-      τs'20
-      a'12 .ensures
-      y'12
-      r''
-      (End.outs {n = 2}
-      τs'20
-      (open_brackets'.ended (Seed.the-row x'9) the-impl.ghosts the-impl.dict .signature .params)
-      (open_brackets'.ended (Seed.the-row x'9) the-impl.ghosts the-impl.dict .kept)
-      a'12
-      ws'4))
-      λ x'11. search ends depth 24 fits 20000)
-      (Table.widened
-      𝓤'
-      H'
-      (Spec.tripleOf
-      𝓤'
-      H'
-      (𝓖' .A)
-      open_brackets.signature
-      (open_brackets.spec 𝓤' H' (𝓖' .A) (𝓜' .mem) (𝓡' .returns)))
-      𝓜'
-      𝓡'
-      γ″'
-      (γ″' Symbol''.name)
-      (γ″' (Syntax.method the-impl.dict 1 (Param.layouts List.[] tt)))
-      (Symbol''.as-method
-      γ″'
-      x'6
-      (Syntax.method the-impl.dict 1 (Param.layouts List.[] tt))
-      Path'.refl)
-      (Met''.met 𝓤' H' 𝓜' 𝓖' (Running.within 𝓤' H' 𝓜' 𝓡' γ″') x'6));
-  generation = Impl.implements
-      𝓤'
-      H'
-      (𝓖' .A)
-      generation.signature
-      2
-      (generation'.ended (Seed.the-row x'9) the-impl.ghosts the-impl.dict .signature .outlives)
-      (λ τs'21. (τs'21 .0, (x'9 .lft, tt)))
-      (Running.givenOf 𝓤' H' 𝓜' 𝓖')
-      (𝓡' .run (γ″' (Syntax.method the-impl.dict 2 (Param.layouts List.[] tt))))
-      (Table.run-framed
-      𝓤'
-      H'
-      𝓜'
-      𝓡'
-      (γ″' (Syntax.method the-impl.dict 2 (Param.layouts List.[] tt))))
-      (generation.spec 𝓤' H' (𝓖' .A) (𝓜' .mem) (𝓡' .returns))
-      (λ τs'22 a'13. record {
-        ghost = generation'.spec
-            (Seed.the-row x'9)
-            the-impl.ghosts
-            the-impl.dict
-            𝓤'
-            H'
-            (𝓖' .A)
-            (𝓜' .mem)
-            (𝓡' .returns)
-            τs'22
-            a'13 .ghost;
-        requires = λ y'13. generation'.spec
-            (Seed.the-row x'9)
-            the-impl.ghosts
-            the-impl.dict
-            𝓤'
-            H'
-            (𝓖' .A)
-            (𝓜' .mem)
-            (𝓡' .returns)
-            τs'22
-            a'13 .requires
-            y'13;
-        ensures = generation'.spec
-            (Seed.the-row x'9)
-            the-impl.ghosts
-            the-impl.dict
-            𝓤'
-            H'
-            (𝓖' .A)
-            (𝓜' .mem)
-            (𝓡' .returns)
-            τs'22
-            a'13 .ensures;
-      })
-      1
-      (λ τs'23. (τs'23 .1 .0, tt))
-      (λ τs'24. (Seed.the-row x'9 .lives, tt))
-      ((0, tt), ((1, tt), tt))
-      (λ τs'25 a'14 y'14. Logic.emp 𝓤')
-      (λ τs'26 a'15 y'15. Logic.id⊢
-      𝓤'
-      (generation'.spec
-      (Seed.the-row x'9)
-      the-impl.ghosts
-      the-impl.dict
-      𝓤'
-      H'
-      (𝓖' .A)
-      (𝓜' .mem)
-      (𝓡' .returns)
-      τs'26
-      a'15 .requires
-      y'15))
-      (λ τs'27 h'5. (
-        (
-          BorrowLft.⊑-refl (τs'27 .0),
-          (
-            BorrowLft.⊑-trans
-                (τs'27 .1 .0)
-                (τs'27 .1 .0)
-                (x'9 .lft)
-                (BorrowLft.⊑-refl (τs'27 .1 .0))
-                (BorrowLft.⊑-trans
-                (τs'27 .1 .0)
-                (Seed.the-row x'9 .lives)
-                (x'9 .lft)
-                (h'5 .1 .0)
-                (search Impl.inside depth 24 fits 20000)),
-            tt,
-          ),
-        ),
-        (
-          BorrowLft.⊑-trans
-              (τs'27 .0)
-              (τs'27 .1 .0)
-              (x'9 .lft)
-              (BorrowLft.⊑-trans
-              (τs'27 .0)
-              (τs'27 .0)
-              (τs'27 .1 .0)
-              (BorrowLft.⊑-refl (τs'27 .0))
-              (h'5 .0 .0))
-              (BorrowLft.⊑-trans
-              (τs'27 .1 .0)
-              (Seed.the-row x'9 .lives)
-              (x'9 .lft)
-              (h'5 .1 .0)
-              (search Impl.inside depth 24 fits 20000)),
-          tt,
-        ),
-      ))
-      (λ τs'28 a'16 y'16. y'16)
-      (λ τs'29 h'6 a'17 y'17. Impl.insides-in 𝓤' 0 tt tt (Logic.emp 𝓤') tt)
-      (λ τs'30 a'18 y'18 r'3. Impl.hidden
-      2
-      (τs'30 .0, (x'9 .lft, tt))
-      𝓤'
-      H'
-      (𝓖' .A)
-      (generation.signature .params)
-      (generation.ended .kept)
-      (Bool.true, tt)
-      a'18
-      (λ ws'5. generation.clauses 𝓤' H' (𝓖' .A) (𝓜' .mem) (𝓡' .returns) (
-        τs'30 .0,
-        (x'9 .lft, tt),
-      )
-      a'18 .ensures
-      y'18
-      r'3
-      (End.outs {n = 2}
-      (τs'30 .0, (x'9 .lft, tt))
-      (generation.ended .signature .params)
-      (generation.ended .kept)
-      a'18
-      ws'5))
-      (λ ws'6. generation'.clauses
-      (Seed.the-row x'9)
-      the-impl.ghosts
-      the-impl.dict
-      𝓤'
-      H'
-      (𝓖' .A)
-      (𝓜' .mem)
-      (𝓡' .returns)
-      τs'30
-      a'18 .ensures
-      y'18
-      r'3
-      (End.outs {n = 2}
-      τs'30
-      (generation'.ended (Seed.the-row x'9) the-impl.ghosts the-impl.dict .signature .params)
-      (generation'.ended (Seed.the-row x'9) the-impl.ghosts the-impl.dict .kept)
-      a'18
-      ws'6))
-      λ x'12. search ends depth 24 fits 20000)
-      (Table.widened
-      𝓤'
-      H'
-      (Spec.tripleOf
-      𝓤'
-      H'
-      (𝓖' .A)
-      generation.signature
-      (generation.spec 𝓤' H' (𝓖' .A) (𝓜' .mem) (𝓡' .returns)))
-      𝓜'
-      𝓡'
-      γ″'
-      (γ″' Symbol'.name)
-      (γ″' (Syntax.method the-impl.dict 2 (Param.layouts List.[] tt)))
-      (Symbol'.as-method
-      γ″'
-      x'7
-      (Syntax.method the-impl.dict 2 (Param.layouts List.[] tt))
-      Path'.refl)
-      (Met'.met 𝓤' H' 𝓜' 𝓖' (Running.within 𝓤' H' 𝓜' 𝓡' γ″') x'7));
-}
+pub bound : statement
+bound γ w-draw w-brackets w-generation κ M 𝓤 H 𝓜 𝓖 𝓡 =
+    let life : NamedLft = record { mir = erased; lft = κ } in
+    let row = the-row life in
+    let told-draw = own-draw.spec 𝓤 H (𝓖 .A) (𝓜 .mem) (𝓡 .returns) in
+    let asks-draw = asked-draw.spec row ghosts dict 𝓤 H (𝓖 .A) (𝓜 .mem) (𝓡 .returns) in
+    let told-brackets = own-brackets.spec 𝓤 H (𝓖 .A) (𝓜 .mem) (𝓡 .returns) in
+    let asks-brackets = asked-brackets.spec row ghosts dict 𝓤 H (𝓖 .A) (𝓜 .mem) (𝓡 .returns) in
+    let told-generation = own-generation.spec 𝓤 H (𝓖 .A) (𝓜 .mem) (𝓡 .returns) in
+    let asks-generation = asked-generation.spec row ghosts dict 𝓤 H (𝓖 .A) (𝓜 .mem) (𝓡 .returns) in
+    record {
+      lawful = λ s. lawfully (s .text .now) (s .at) (s .told) (s .opened) (s .within) (s .counted) (s .shallow);
+      draw =
+          implements 𝓤 H (𝓖 .A) own-draw.signature 2 (asked-draw.ended row ghosts dict .signature .outlives) (λ τs. (τs .0, (life .lft, tt))) (givenOf 𝓤 H 𝓜 𝓖)
+          (𝓡 .run (γ (key 0))) (run-framed 𝓤 H 𝓜 𝓡 (γ (key 0))) told-draw
+          (λ τs a. record { ghost = asks-draw τs a .ghost; requires = λ y. asks-draw τs a .requires y; ensures = asks-draw τs a .ensures })
+          1 (λ τs. (τs .1 .0, tt)) (λ τs. (row .lives, tt)) ((0, tt), ((1, tt), tt)) (λ τs a y. emp 𝓤) (λ τs a y. id⊢ 𝓤 (asks-draw τs a .requires y))
+          (λ τs h.
+          let life-in = ⊑-trans (τs .1 .0) (row .lives) (life .lft) (h .1 .0) (search inside depth 24 fits 20000) in
+          ((⊑-refl (τs .0), (life-in, tt)), (⊑-trans (τs .0) (τs .1 .0) (life .lft) (h .0 .0) life-in, tt)))
+          (λ τs a y. y) (λ τs h a y. insides-in 𝓤 0 tt tt (emp 𝓤) tt)
+          (λ τs a y r.
+          hidden 2 (τs .0, (life .lft, tt)) 𝓤 H (𝓖 .A) (own-draw.signature .params) (own-draw.ended .kept) (true, tt) a
+          (λ ws. own-draw.clauses 𝓤 H (𝓖 .A) (𝓜 .mem) (𝓡 .returns) (τs .0, (life .lft, tt)) a .ensures y r
+          (outs {n = 2} (τs .0, (life .lft, tt)) (own-draw.ended .signature .params) (own-draw.ended .kept) a ws))
+          (λ ws. asked-draw.clauses row ghosts dict 𝓤 H (𝓖 .A) (𝓜 .mem) (𝓡 .returns) τs a .ensures y r
+          (outs {n = 2} τs (asked-draw.ended row ghosts dict .signature .params) (asked-draw.ended row ghosts dict .kept) a ws))
+          (λ x. search ends depth 24 fits 20000))
+          (widened 𝓤 H (tripleOf 𝓤 H (𝓖 .A) own-draw.signature told-draw) 𝓜 𝓡 γ (γ sym-draw.name) (γ (key 0)) (sym-draw.as-method γ w-draw (key 0) refl)
+          (met-draw.met 𝓤 H 𝓜 𝓖 (within 𝓤 H 𝓜 𝓡 γ) w-draw));
+      «open_brackets» =
+          implements 𝓤 H (𝓖 .A) own-brackets.signature 2 (asked-brackets.ended row ghosts dict .signature .outlives) (λ τs. (τs .0, (life .lft, tt))) (givenOf 𝓤 H 𝓜 𝓖)
+          (𝓡 .run (γ (key 1))) (run-framed 𝓤 H 𝓜 𝓡 (γ (key 1))) told-brackets
+          (λ τs a. record { ghost = asks-brackets τs a .ghost; requires = λ y. asks-brackets τs a .requires y; ensures = asks-brackets τs a .ensures })
+          1 (λ τs. (τs .1 .0, tt)) (λ τs. (row .lives, tt)) ((0, tt), ((1, tt), tt)) (λ τs a y. emp 𝓤) (λ τs a y. id⊢ 𝓤 (asks-brackets τs a .requires y))
+          (λ τs h.
+          let life-in = ⊑-trans (τs .1 .0) (row .lives) (life .lft) (h .1 .0) (search inside depth 24 fits 20000) in
+          ((⊑-refl (τs .0), (life-in, tt)), (⊑-trans (τs .0) (τs .1 .0) (life .lft) (h .0 .0) life-in, tt)))
+          (λ τs a y. y) (λ τs h a y. insides-in 𝓤 0 tt tt (emp 𝓤) tt)
+          (λ τs a y r.
+          hidden 2 (τs .0, (life .lft, tt)) 𝓤 H (𝓖 .A) (own-brackets.signature .params) (own-brackets.ended .kept) (true, tt) a
+          (λ ws. own-brackets.clauses 𝓤 H (𝓖 .A) (𝓜 .mem) (𝓡 .returns) (τs .0, (life .lft, tt)) a .ensures y r
+          (outs {n = 2} (τs .0, (life .lft, tt)) (own-brackets.ended .signature .params) (own-brackets.ended .kept) a ws))
+          (λ ws. asked-brackets.clauses row ghosts dict 𝓤 H (𝓖 .A) (𝓜 .mem) (𝓡 .returns) τs a .ensures y r
+          (outs {n = 2} τs (asked-brackets.ended row ghosts dict .signature .params) (asked-brackets.ended row ghosts dict .kept) a ws))
+          (λ x. search ends depth 24 fits 20000))
+          (widened 𝓤 H (tripleOf 𝓤 H (𝓖 .A) own-brackets.signature told-brackets) 𝓜 𝓡 γ (γ sym-brackets.name) (γ (key 1)) (sym-brackets.as-method γ w-brackets (key 1) refl)
+          (met-brackets.met 𝓤 H 𝓜 𝓖 (within 𝓤 H 𝓜 𝓡 γ) w-brackets));
+      generation =
+          implements 𝓤 H (𝓖 .A) own-generation.signature 2 (asked-generation.ended row ghosts dict .signature .outlives) (λ τs. (τs .0, (life .lft, tt))) (givenOf 𝓤 H 𝓜 𝓖)
+          (𝓡 .run (γ (key 2))) (run-framed 𝓤 H 𝓜 𝓡 (γ (key 2))) told-generation
+          (λ τs a. record { ghost = asks-generation τs a .ghost; requires = λ y. asks-generation τs a .requires y; ensures = asks-generation τs a .ensures })
+          1 (λ τs. (τs .1 .0, tt)) (λ τs. (row .lives, tt)) ((0, tt), ((1, tt), tt)) (λ τs a y. emp 𝓤) (λ τs a y. id⊢ 𝓤 (asks-generation τs a .requires y))
+          (λ τs h.
+          let life-in = ⊑-trans (τs .1 .0) (row .lives) (life .lft) (h .1 .0) (search inside depth 24 fits 20000) in
+          ((⊑-refl (τs .0), (life-in, tt)), (⊑-trans (τs .0) (τs .1 .0) (life .lft) (h .0 .0) life-in, tt)))
+          (λ τs a y. y) (λ τs h a y. insides-in 𝓤 0 tt tt (emp 𝓤) tt)
+          (λ τs a y r.
+          hidden 2 (τs .0, (life .lft, tt)) 𝓤 H (𝓖 .A) (own-generation.signature .params) (own-generation.ended .kept) (true, tt) a
+          (λ ws. own-generation.clauses 𝓤 H (𝓖 .A) (𝓜 .mem) (𝓡 .returns) (τs .0, (life .lft, tt)) a .ensures y r
+          (outs {n = 2} (τs .0, (life .lft, tt)) (own-generation.ended .signature .params) (own-generation.ended .kept) a ws))
+          (λ ws. asked-generation.clauses row ghosts dict 𝓤 H (𝓖 .A) (𝓜 .mem) (𝓡 .returns) τs a .ensures y r
+          (outs {n = 2} τs (asked-generation.ended row ghosts dict .signature .params) (asked-generation.ended row ghosts dict .kept) a ws))
+          (λ x. search ends depth 24 fits 20000))
+          (widened 𝓤 H (tripleOf 𝓤 H (𝓖 .A) own-generation.signature told-generation) 𝓜 𝓡 γ (γ sym-generation.name) (γ (key 2)) (sym-generation.as-method γ w-generation (key 2) refl)
+          (met-generation.met 𝓤 H 𝓜 𝓖 (within 𝓤 H 𝓜 𝓡 γ) w-generation));
+    }
