@@ -1,0 +1,5 @@
+use Rattle.expr.proofs.Examples.{examples}
+use Rattle.expr.proofs.examples_stand.Needs as need
+
+pub returns : need.returns
+returns c = examples

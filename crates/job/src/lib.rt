@@ -1,0 +1,5 @@
+// A job: what its bytes ask for.
+pub mod job;
+pub mod lines;
+pub mod order;
+pub mod refusal;

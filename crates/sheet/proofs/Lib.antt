@@ -1,0 +1,4 @@
+pub mod Bytes
+pub mod Contents
+pub mod Reading
+pub mod Recording

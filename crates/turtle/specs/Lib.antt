@@ -1,0 +1,10 @@
+pub mod Vectors
+pub mod Turns
+pub mod Table
+pub mod Laws
+pub mod Poses
+pub mod Stances
+pub mod Commands
+pub mod Deeds
+pub mod Acts
+pub mod Examples
