@@ -1,5 +1,7 @@
 // Prints the answer to the job on standard input.
 mod answer;
+#[cfg(test)]
+mod tests;
 
 use answer::Answer;
 use answer::AnswerDisplay;
