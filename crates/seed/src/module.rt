@@ -33,7 +33,7 @@ pub enum Cause {
 }
 
 // The cause by its number.
-pub fn number_of(cause: Cause) -> u8
+pub(crate) fn number_of(cause: Cause) -> u8
     ensures { λ r. ⌜ r ≡ cause-number cause ⌝ }
 {
     match cause {
@@ -45,7 +45,7 @@ pub fn number_of(cause: Cause) -> u8
 }
 
 // How many bytes the first module of a text has.
-pub fn own_len(text: &[u8]) -> usize
+pub(crate) fn own_len(text: &[u8]) -> usize
     requires { ⌜ 0 < length (now text) ⌝ }
     ensures some { λ r. ⌜ 0 < r ⌝ }
     ensures within { λ r. ⌜ r ≤ length (now (text .entry)) ⌝ }
@@ -97,7 +97,7 @@ fn bracketed(module: Module, opened: u8) -> Result<Module, Cause>
 }
 
 // The module that these bytes are, with so many brackets open before it.
-pub fn read_module(own: &[u8], opened: u8) -> Result<Module, Cause>
+pub(crate) fn read_module(own: &[u8], opened: u8) -> Result<Module, Cause>
     ensures { λ r. ⌜ outcome-of r ≡ outcome opened (now (own .entry)) ⌝ }
 {
     let Some(draft) = read_form(own) else {
@@ -111,7 +111,7 @@ pub fn read_module(own: &[u8], opened: u8) -> Result<Module, Cause>
 }
 
 // The brackets open after a module.
-pub fn opened_after(opened: u8, module: Module) -> u8
+pub(crate) fn opened_after(opened: u8, module: Module) -> u8
     requires { ⌜ opened ≤ 32 ⌝ }
     ensures { λ r. ⌜ r ≡ after opened (symbol-of «module») ⌝ }
 {

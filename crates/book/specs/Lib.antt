@@ -1,0 +1,5 @@
+pub mod Rules
+pub mod Books
+pub mod Winners
+pub mod Label
+pub mod Examples

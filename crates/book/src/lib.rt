@@ -1,0 +1,25 @@
+// Books of rules.
+ghost use Rattle.book.specs.Books.{Any-order};
+ghost use Rattle.book.specs.Examples.{Examples};
+ghost use Rattle.book.specs.Label.{Label};
+
+/// The same lines in any order make the same book.
+pub fn order_is_gone() -> u8
+    ensures { λ _. ⌜ Any-order ⌝ }
+{
+    0
+}
+
+/// Where two rules fit one module, the rule with more neighbours grows; then left before right; then the lower number.
+pub fn label_stands() -> u8
+    ensures { λ _. ⌜ Label ⌝ }
+{
+    0
+}
+
+/// The worked examples stand.
+pub fn examples_stand() -> u8
+    ensures { λ _. ⌜ Examples ⌝ }
+{
+    0
+}
