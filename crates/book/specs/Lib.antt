@@ -1,3 +1,5 @@
+pub mod Grammar
+pub mod Meanings
 pub mod Rules
 pub mod Books
 pub mod Winners
