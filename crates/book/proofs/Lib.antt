@@ -1,3 +1,4 @@
 pub mod Ordering
 pub mod Loading
 pub mod Winning
+pub mod Unique

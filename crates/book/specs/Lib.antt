@@ -4,4 +4,5 @@ pub mod Rules
 pub mod Books
 pub mod Winners
 pub mod Label
+pub mod OneMeaning
 pub mod Examples

@@ -2,6 +2,7 @@
 ghost use Rattle.book.specs.Books.{Any-order};
 ghost use Rattle.book.specs.Examples.{Examples};
 ghost use Rattle.book.specs.Label.{Label};
+ghost use Rattle.book.specs.OneMeaning.{One-meaning};
 
 /// The same lines in any order make the same book.
 pub fn order_is_gone() -> u8
@@ -13,6 +14,13 @@ pub fn order_is_gone() -> u8
 /// Where two rules fit one module, the rule with more neighbours grows; then left before right; then the lower number.
 pub fn label_stands() -> u8
     ensures { λ _. ⌜ Label ⌝ }
+{
+    0
+}
+
+/// Guards and sums that are spelled alike mean the same.
+pub fn one_meaning() -> u8
+    ensures { λ _. ⌜ One-meaning ⌝ }
 {
     0
 }
