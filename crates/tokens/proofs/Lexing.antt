@@ -1,14 +1,13 @@
 -- Internal: the first token of a text, by what its first bytes are.
 use Prim.Native.Nat.{ℕ, zero, suc, _≤_, _<_}
-use mathlib.Core.Path.{_≡_, refl, sym, ap, _∙_}
-use mathlib.Core.Bool.{Bool, true, false, cond, not, _&&_, _||_}
+use mathlib.Core.Path.{_≡_, refl, ap, _∙_}
+use mathlib.Core.Bool.{true, false, _&&_}
 use mathlib.Core.List.{List, [], _∷_, _++_}
 use native.Mathlib.Omega.{arith}
-use lib.Dec.{eqb, leb}
 use lib.ListN.{length, getD, take, drop}
 use Rattle.std.specs.shelf.Text.{allDigits}
 use Rattle.std.proofs.shelf.Ways.{tells}
-use Rattle.tokens.specs.Tokens.{Lexeme, number, name, sign, is-space, is-digit, is-name, is-mark, pairs, lone, sign-of, is-sign, single, joined, tokens}
+use Rattle.tokens.specs.Tokens.{number, name, sign, is-space, is-digit, is-name, is-mark, pairs, lone, sign-of, is-sign, single, joined, tokens}
 
 pub digit-alone : (b : ℕ) → is-digit b ≡ true → single b ≡ number (b ∷ []) ∷ []
 digit-alone b h = let s : is-space b ≡ false = grind (arith, tells) in rw (s, h)

@@ -5,10 +5,11 @@ use mathlib.Core.List.{List, [], _∷_, _++_}
 use lib.Chars.{codes}
 use lib.ListN.{length}
 use Rattle.tokens.specs.declared.token.Sign.the-variants.{Letter, Plus, Minus, Opens, Closes, Less, AtMost, Equal, Unequal, More, Arrow, Colon, Asks, Ignores, Branches, Rejoins}
-use Rattle.tokens.specs.Tokens.{Lexeme, number, name, sign, tokens}
+use Rattle.tokens.specs.Tokens.{number, name, sign, tokens}
 
 pub record Laws : Type 0 where
-  -- a space parts a line: its tokens are those before the space, then those behind it
+  -- a space parts a line: its tokens are those before the space, then those behind it. So a space in front is no token, and
+  -- several spaces are as one
   pub parted : (xs ys : List ℕ) → tokens (xs ++ (32 ∷ ys)) ≡ tokens xs ++ tokens ys
   -- no more tokens than bytes
   pub few : (l : List ℕ) → length (tokens l) ≤ length l

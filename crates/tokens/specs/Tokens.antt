@@ -1,6 +1,6 @@
 -- The tokens of a line. A line is bytes, and any bytes have tokens.
 use Prim.Native.Nat.{ℕ}
-use mathlib.Core.Bool.{Bool, true, false, cond, not, _&&_, _||_}
+use mathlib.Core.Bool.{Bool, false, cond, not, _&&_, _||_}
 use mathlib.Core.List.{List, [], _∷_, _++_}
 use lib.Chars.{codes}
 use lib.Dec.{eqb, leb}
@@ -33,7 +33,7 @@ is-mark b = not (is-space b || (is-digit b || is-name b))
 abbrev pub letter-only : ℕ → Bool
 letter-only b = (leb 65 b && leb b 90) || among b (codes "^\\|%")
 
--- the sign that a byte is by itself: + - * / ( ) < = > & , : ? ~ [ ] in this order
+-- the sign that a byte is by itself: a letter, or one of + - * / ( ) < = > & , : ? ~ [ ] in this order, or stray
 abbrev pub lone : ℕ → Sign
 lone b =
     cond (letter-only b) (Letter b)
@@ -65,7 +65,7 @@ paired b c =
     (cond (eqb b 62 && eqb c 61) AtLeast
     (cond (eqb b 33 && eqb c 61) Unequal Stray)))
 
--- the sign that some bytes are
+-- the sign that some bytes are: stray where they are none of the above
 abbrev pub sign-of : List ℕ → Sign
 sign-of [] = Stray
 sign-of (b ∷ []) = lone b

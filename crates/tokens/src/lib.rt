@@ -11,12 +11,10 @@ mod tests {
 
     #[test]
     fn walks_a_line() -> Result<(), Fail> {
-        let mut reader = Reader::new(b" 12x-> # ");
+        let mut reader = Reader::new(b" 12x-> ");
         check(matches!(reader.next(), Token::Number(b"12")))?;
         check(matches!(reader.next(), Token::Name(b"x")))?;
         check(matches!(reader.next(), Token::Sign(b"->")))?;
-        check(matches!(reader.next(), Token::Sign(b"#")))?;
-        check(matches!(reader.next(), Token::End))?;
         check(matches!(reader.next(), Token::End))
     }
 }

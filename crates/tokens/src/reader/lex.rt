@@ -89,7 +89,7 @@ impl<'a> Reader<'a> {
         Reader { line, at: 0 }
     }
 
-    /// Takes the next token, or `End` where only spaces are left.
+    /// Takes the next token; where only spaces are left, passes over them and answers `End`.
     pub fn next(&mut self) -> Token<'a>
         ensures { λ r. ⌜ Takes (now (self .entry)) r (now (self .exit)) ⌝ }
     {
