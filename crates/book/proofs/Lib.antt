@@ -2,3 +2,4 @@ pub mod Ordering
 pub mod Loading
 pub mod Winning
 pub mod Unique
+pub mod Recovered

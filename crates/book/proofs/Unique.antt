@@ -13,11 +13,10 @@ use Rattle.expr.specs.declared.code.Relation.the-variants as relation
 use Rattle.expr.specs.declared.code.Code.{Code}
 use Rattle.expr.specs.declared.code.Code.the-variants.{Blank, Number, Name, Negate, Add, Subtract, Multiply, Divide, Compare}
 use Rattle.expr.specs.Values.{Expr, Comparison}
-use Rattle.expr.specs.Codes.{code-of, comparisons-code, decoded, comparisons}
+use Rattle.expr.specs.Codes.{code-of, comparisons-code, decoded}
 use Rattle.expr.proofs.Examples.{reads-back}
 use Rattle.book.specs.Grammar.{Part, guard, comparison, sum, product, factor, operand, relation-sign, Tree, digits, named, group, plain, negated, one-factor, times, over, one-product, plus, less, compared, one-comparison, also, spells}
 use Rattle.book.specs.Meanings.{sense}
-use Rattle.book.specs.OneMeaning.{One-meaning}
 
 -- the code of a tree: operands first, then what joins them
 abbrev postfix : {k : Part} → Tree k → List Code
@@ -37,23 +36,23 @@ postfix (one-comparison c) = postfix c
 postfix (also g c) = postfix g ++ postfix c
 
 -- a sign that waits, with how tightly it binds
-data Waits : Type 0 where
+pub data Waits : Type 0 where
   waits : ℕ → Code → Waits
 
-abbrev popped : ℕ → List Waits → List Code
+abbrev pub popped : ℕ → List Waits → List Code
 popped p [] = []
 popped p (waits q c ∷ st) = cond (leb p q) (c ∷ popped p st) []
 
-abbrev kept : ℕ → List Waits → List Waits
+abbrev pub kept : ℕ → List Waits → List Waits
 kept p [] = []
 kept p (waits q c ∷ st) = cond (leb p q) (kept p st) (waits q c ∷ st)
 
-abbrev behind : List Waits → List Waits
+abbrev pub behind : List Waits → List Waits
 behind [] = []
 behind (w ∷ st) = st
 
 -- the code that a sign lets go, after an operand or before one
-abbrev freed : Sign → Bool → List Waits → List Code
+abbrev pub freed : Sign → Bool → List Waits → List Code
 freed (Letter c) m st = []
 freed Plus m st = popped 3 st
 freed Minus true st = popped 3 st
@@ -79,7 +78,7 @@ freed Rejoins m st = []
 freed Stray m st = []
 
 -- what waits then
-abbrev stacked : Sign → Bool → List Waits → List Waits
+abbrev pub stacked : Sign → Bool → List Waits → List Waits
 stacked (Letter c) m st = st
 stacked Plus m st = waits 3 Add ∷ kept 3 st
 stacked Minus true st = waits 3 Subtract ∷ kept 3 st
@@ -104,7 +103,7 @@ stacked Branches m st = st
 stacked Rejoins m st = st
 stacked Stray m st = st
 
-abbrev closes : Sign → Bool
+abbrev pub closes : Sign → Bool
 closes (Letter c) = false
 closes Plus = false
 closes Minus = false
@@ -129,7 +128,7 @@ closes Rejoins = false
 closes Stray = false
 
 -- the code of tokens, after an operand or before one
-abbrev yields : Bool → List Waits → List Lexeme → List Code
+abbrev pub yields : Bool → List Waits → List Lexeme → List Code
 yields m st [] = popped 1 st
 yields m st (number ds ∷ ts) = Number (worth ds) ∷ yields true st ts
 yields m st (name c ∷ ts) = Name c ∷ yields true st ts
@@ -261,25 +260,19 @@ coded (one-comparison c) = coded c ∙ sym (append-nil _)
 coded (also g c) = (λ i. coded g i ++ coded c i) ∙ sym (one-more (sense g) (sense c))
 
 -- the code of all the tokens
-whole-guard : (g : Tree guard) → yields false [] (spells g) ≡ comparisons-code (sense g)
+pub whole-guard : (g : Tree guard) → yields false [] (spells g) ≡ comparisons-code (sense g)
 whole-guard g =
     ap (yields false []) (sym (append-nil (spells g)))
     ∙ told g [] [] refl (λ c s. refl, (λ c s. refl, (λ c s. refl, λ c s. refl)))
     ∙ append-nil (postfix g)
     ∙ coded g
 
-whole-sum : (s : Tree sum) → yields false [] (spells s) ≡ code-of (sense s)
+pub whole-sum : (s : Tree sum) → yields false [] (spells s) ≡ code-of (sense s)
 whole-sum s =
     ap (yields false []) (sym (append-nil (spells s)))
     ∙ told s [] [] ((refl, refl), (refl, refl)) (λ c s. refl, (λ c s. refl, λ c s. refl))
     ∙ append-nil (postfix s)
     ∙ coded s
 
-same-code : (a b : Expr) → code-of a ≡ code-of b → a ≡ b
+pub same-code : (a b : Expr) → code-of a ≡ code-of b → a ≡ b
 same-code a b e = let one : a ∷ [] ≡ b ∷ [] = sym (reads-back .expressions a) ∙ ap (decoded []) e ∙ reads-back .expressions b in cc
-
-pub one-meaning : One-meaning
-one-meaning = record {
-  guards = λ g h e. sym (reads-back .guards (sense g)) ∙ ap (comparisons []) (sym (whole-guard g) ∙ ap (yields false []) e ∙ whole-guard h) ∙ reads-back .guards (sense h);
-  sums = λ s t e. same-code (sense s) (sense t) (sym (whole-sum s) ∙ ap (yields false []) e ∙ whole-sum t);
-}

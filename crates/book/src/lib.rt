@@ -18,7 +18,7 @@ pub fn label_stands() -> u8
     0
 }
 
-/// Guards and sums that are spelled alike mean the same.
+/// Lines that are spelled alike mean the same, and so do guards and sums.
 pub fn one_meaning() -> u8
     ensures { λ _. ⌜ One-meaning ⌝ }
 {

@@ -1,4 +1,4 @@
-use Rattle.book.proofs.Unique.{one-meaning}
+use Rattle.book.proofs.Recovered.{one-meaning}
 use Rattle.book.proofs.one_meaning.Needs as need
 
 pub returns : need.returns
