@@ -1,6 +1,8 @@
 pub mod Grammar
 pub mod Meanings
 pub mod Rules
+pub mod Forms
+pub mod Records
 pub mod Books
 pub mod Winners
 pub mod Label

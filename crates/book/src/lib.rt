@@ -4,6 +4,8 @@ ghost use Rattle.book.specs.Examples.{Examples};
 ghost use Rattle.book.specs.Label.{Label};
 ghost use Rattle.book.specs.OneMeaning.{One-meaning};
 
+pub mod form;
+
 /// The same lines in any order make the same book.
 pub fn order_is_gone() -> u8
     ensures { λ _. ⌜ Any-order ⌝ }
