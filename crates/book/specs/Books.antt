@@ -1,7 +1,7 @@
 -- Books: rules in the order in which they are tried, and ignored letters. A book does not know in which order its lines came.
 use Prim.Native.Nat.{ℕ}
 use mathlib.Core.Path.{_≡_}
-use mathlib.Core.Bool.{Bool, true, false, cond, _&&_, _||_}
+use mathlib.Core.Bool.{Bool, false, cond, _&&_, _||_}
 use mathlib.Core.List.{List, [], _∷_}
 use lib.Dec.{eqb, ltb}
 use Rattle.std.specs.declared.option.Option.{Option}

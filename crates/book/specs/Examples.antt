@@ -2,7 +2,7 @@
 use Prim.Native.Nat.{ℕ}
 use Prim.Native.String.{String}
 use mathlib.Core.Path.{_≡_}
-use mathlib.Core.List.{List, [], _∷_, map}
+use mathlib.Core.List.{[], _∷_, map}
 use lib.Chars.{codes}
 use lib.Dec.{lit≤}
 use Rattle.std.specs.declared.option.Option.{Option}
@@ -14,8 +14,8 @@ use Rattle.expr.specs.Values as values
 use Rattle.tokens.specs.Tokens.{tokens}
 use Rattle.book.specs.Grammar.{sum, Tree, named, plain, negated, one-factor, times, over, one-product, compared, one-comparison, also, small, FormTree, grown, LineTree, ruling, spells-line}
 use Rattle.book.specs.Meanings.{line-sense}
-use Rattle.book.specs.Rules.{Form, Piece, Rule}
-use Rattle.book.specs.Books.{Book, Entry, rule, empty, loaded}
+use Rattle.book.specs.Rules.{Form, Rule}
+use Rattle.book.specs.Books.{Book, rule, empty, loaded}
 use Rattle.book.specs.Winners.{winner}
 
 abbrev pub form : ℕ → Form

@@ -7,29 +7,21 @@ ghost use Rattle.book.specs.OneMeaning.{One-meaning};
 pub mod form;
 
 /// The same lines in any order make the same book.
-pub fn order_is_gone() -> u8
+pub fn order_is_gone()
     ensures { λ _. ⌜ Any-order ⌝ }
-{
-    0
-}
+{}
 
 /// Where two rules fit one module, the rule with more neighbours grows; then left before right; then the lower number.
-pub fn label_stands() -> u8
+pub fn label_stands()
     ensures { λ _. ⌜ Label ⌝ }
-{
-    0
-}
+{}
 
 /// Lines that are spelled alike mean the same, and so do guards and sums.
-pub fn one_meaning() -> u8
+pub fn one_meaning()
     ensures { λ _. ⌜ One-meaning ⌝ }
-{
-    0
-}
+{}
 
 /// The worked examples stand.
-pub fn examples_stand() -> u8
+pub fn examples_stand()
     ensures { λ _. ⌜ Examples ⌝ }
-{
-    0
-}
+{}

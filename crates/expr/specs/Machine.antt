@@ -1,4 +1,4 @@
--- What the code's records mean, and code worked out on values. Internal.
+-- What the records of the code mean; then, internal, code worked out on values one place at a time.
 use Prim.Native.Nat.{ℕ, zero, suc, _-_, _<_}
 use mathlib.Core.Bool.{Bool, cond, _&&_}
 use mathlib.Core.List.{List, [], _∷_, map}
