@@ -1,4 +1,6 @@
 // Books of rules.
+#![tactic(auto)]
+
 ghost use Rattle.book.specs.Books.{AnyOrder};
 ghost use Rattle.book.specs.Examples.{Examples};
 ghost use Rattle.book.specs.Label.{Label};

@@ -1,4 +1,6 @@
 // Books of rules.
+#![tactic(auto)]
+
 ghost use Rattle.books.specs.Examples.{Examples};
 
 pub mod closed_book;

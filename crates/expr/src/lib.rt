@@ -1,4 +1,6 @@
 // Expressions as code, and what they come to.
+#![tactic(auto)]
+
 ghost use Rattle.expr.specs.Examples.{Examples, ReadsBack};
 
 pub mod code;

@@ -1,3 +1,5 @@
 // Filling a book with the lines of a job.
+#![tactic(auto)]
+
 pub mod fill;
 pub mod refusal;

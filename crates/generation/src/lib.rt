@@ -1,4 +1,6 @@
 // One generation of a bracketed parametric 2L-system: what it is, and its laws.
+#![tactic(auto)]
+
 ghost use Rattle.generation.specs.Agreement.{StreamsAgree};
 ghost use Rattle.generation.specs.Growths.{Growths};
 ghost use Rattle.generation.specs.Laws.{StaysLawful};

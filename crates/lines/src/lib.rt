@@ -1,4 +1,6 @@
 // The lines of a book.
+#![tactic(auto)]
+
 ghost use Rattle.lines.specs.Examples.{Examples};
 ghost use Rattle.lines.specs.OneMeaning.{OneMeaning};
 

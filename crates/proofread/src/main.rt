@@ -1,5 +1,7 @@
 // Offers each line of standard input to a book, and prints it behind the number of the answer. An empty line begins a new
 // book.
+#![tactic(auto)]
+
 ghost use Rattle.books.specs.Kinds.{open_book};
 ghost use Rattle.books.specs.Loading.{Loads};
 

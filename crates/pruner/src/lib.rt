@@ -1,4 +1,6 @@
 // Pruning, as a layer over any source.
+#![tactic(auto)]
+
 ghost use Rattle.std.specs.Prelude.{◌≡◌};
 ghost use Rattle.pruner.specs.Pruned.{pruned_meaning, CutBranch, DropsWhatIsCut};
 ghost use Rattle.pruner.specs.Streaming.{left_in};

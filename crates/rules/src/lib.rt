@@ -1,4 +1,6 @@
 // Rules as records: forms, code and successors, and what may be wrong with a rule.
+#![tactic(auto)]
+
 pub mod codes;
 pub mod draft;
 pub mod form;

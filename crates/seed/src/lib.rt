@@ -1,4 +1,6 @@
 // The seed: a text read as a source of modules.
+#![tactic(auto)]
+
 mod module;
 mod parameters;
 pub mod seed;

@@ -1,4 +1,6 @@
 // The lexer of book lines: any bytes have tokens, and each token is a part of its line.
+#![tactic(auto)]
+
 pub mod reader;
 pub mod signs;
 pub mod token;

@@ -1,4 +1,6 @@
 // Walks a drawing word from home, on a page and on a tally, and shows what the two sheets hold then.
+#![tactic(auto)]
+
 use sheet::page::Page;
 use sheet::sheet::Sheet;
 use sheet::tally::Tally;

@@ -1,4 +1,6 @@
 // The turtle: where it stands, how it turns, and what a module has it do.
+#![tactic(auto)]
+
 pub mod act;
 pub mod command;
 pub mod pose;

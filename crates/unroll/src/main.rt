@@ -1,4 +1,6 @@
 // Prints the answer to the job on standard input.
+#![tactic(auto)]
+
 mod answer;
 #[cfg(test)]
 mod tests;

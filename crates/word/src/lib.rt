@@ -1,4 +1,6 @@
 // Words of modules, told one module at a time: the vocabulary of every crate.
+#![tactic(auto)]
+
 pub mod bytes;
 pub mod drawn;
 pub mod fault;
