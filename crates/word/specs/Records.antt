@@ -1,10 +1,10 @@
 -- What the records of the code mean, and what one draw does.
-use Rattle.std.specs.Prelude.{◌≡◌, ℕ, List, [], ◌∷◌, ℤ}
+use Rattle.std.specs.Prelude.{◌≡◌, ℕ, [], ◌∷◌, ℤ}
 use Rattle.word.specs.declared.module.Module.{Module}
 use Rattle.word.specs.declared.drawn.Drawn.{Drawn}
 use Rattle.word.specs.declared.drawn.Drawn.TheVariants.{Next, Clean, Broken}
 use Rattle.word.specs.Symbols.{Symbol, symbol}
-use Rattle.word.specs.Words.{Ending, clean, broken, Told, Meaning, after}
+use Rattle.word.specs.Words.{clean, broken, Meaning, after}
 
 abbrev pub symbol_of : Module → Symbol
 symbol_of m = symbol m.letter m.count m.a m.b m.c

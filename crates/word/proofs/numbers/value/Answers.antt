@@ -2,14 +2,14 @@ use Rattle.std.proofs.Common.{get_or, arith}
 use Rattle.word.proofs.Digits.{digit, small, grows, goes_on, at_end, below_ten_million}
 use Rattle.word.proofs.numbers.value.Goals as goal
 
-pub overflow-mul-n : goal.overflow-mul-n
-overflow-mul-n c = let s = small c.loop-d.n c.loop-d.d-index _ c.loop-d.invariant.0 c.loop-d-test.true c.requires.short in omega arith
+pub overflow_mul-n : goal.overflow_mul-n
+overflow_mul-n c = let s = small c.loop-d.n c.loop-d.d-index _ c.loop-d.invariant.0 c.loop-d-test.true c.requires.short in omega arith
 
-pub overflow-sub-n : goal.overflow-sub-n
-overflow-sub-n c = let d = digit c.args.digits.now c.loop-d.d-index c.requires.all c.loop-d-test.true in omega arith
+pub overflow_sub-n : goal.overflow_sub-n
+overflow_sub-n c = let d = digit c.args.digits.now c.loop-d.d-index c.requires.all c.loop-d-test.true in omega arith
 
-pub overflow-add-n : goal.overflow-add-n
-overflow-add-n c =
+pub overflow_add-n : goal.overflow_add-n
+overflow_add-n c =
     let s = small c.loop-d.n c.loop-d.d-index _ c.loop-d.invariant.0 c.loop-d-test.true c.requires.short in
     let d = digit c.args.digits.now c.loop-d.d-index c.requires.all c.loop-d-test.true in
     omega arith

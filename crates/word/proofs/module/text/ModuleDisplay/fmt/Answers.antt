@@ -24,11 +24,11 @@ returns-in-2-clause-writes g c =
     (shown_2 m.letter m.count m.a m.b m.c (low m) (omega arith) _ _ (a_exact m) (b_exact m))
     (c.write-in-2.ensures.writes p ok)
 
-pub returns-in-default-clause-writes : goal.returns-in-default-clause-writes
-returns-in-default-clause-writes g c =
+pub returns-in_default-clause-writes : goal.returns-in_default-clause-writes
+returns-in_default-clause-writes g c =
     let m = c.args.self.now in
     let most = at_most_3 m in
     λ p ok.
     has_written_of_eq g.W.Write.write_str_gives _ _ _ _
     (shown_3 m.letter m.count m.a m.b m.c (low m) (omega arith) _ _ _ (a_exact m) (b_exact m) (c_exact m))
-    (c.write-in-default.ensures.writes p ok)
+    (c.write-in_default.ensures.writes p ok)
