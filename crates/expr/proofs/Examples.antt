@@ -1,4 +1,4 @@
-use Rattle.std.proofs.Common.{◌≡◌, List, [], ◌∷◌, ◌++◌, sym, refl, ap, ◌∙◌, append_assoc, append-nil}
+use Rattle.std.proofs.Common.{◌≡◌, List, [], ◌∷◌, ◌++◌, sym, refl, ap, ◌∙◌, append_assoc}
 use Rattle.expr.specs.declared.code.Code.{Code}
 use Rattle.expr.specs.declared.code.Code.TheVariants.{Negate, Add, Subtract, Multiply, Divide, Compare}
 use Rattle.expr.specs.Values.{Expr, number, name, minus, plus, less, times, over, Comparison}

@@ -1,9 +1,9 @@
 -- Up to three arguments taken off a stack.
-use Rattle.std.proofs.Common.{◌≡◌, ℕ, zero, suc, ◌<◌, ◌≤◌, min, List, [], ◌∷◌, map, ℤ, pos, Result, sym, refl, ap, ◌∙◌, subst, ap₂, arith}
+use Rattle.std.proofs.Common.{◌≡◌, ℕ, ◌≤◌, min, List, [], map, ℤ, pos, Result, sym, refl, ap, ◌∙◌, subst, ap₂, arith}
 use Rattle.expr.specs.declared.computed.Cause.{Cause}
 use Rattle.expr.specs.declared.computed.Computed.{Computed}
 use Rattle.expr.specs.declared.computed.Computed.TheVariants.{Number, Fault}
-use Rattle.expr.specs.Values.{Expr, number, Value, is, wrong, Env, value, Arguments, made, spoilt, with_first, arguments}
+use Rattle.expr.specs.Values.{Expr, number, Value, is, Env, value, made, with_first, arguments}
 use Rattle.expr.specs.Codes.{top, below, latest}
 use Rattle.expr.specs.Machine.{value_of, gathered, arguments_of, Spare}
 use Rattle.expr.proofs.Working.{top_value, below_values}

@@ -1,5 +1,5 @@
 -- Numbers of 32 bits worked on in 64.
-use Rattle.std.proofs.Common.{◌≡◌, ℕ, zero, suc, ◌+◌, ◌*◌, ◌/◌, ◌^◌, ◌<◌, ◌≤◌, false, eqb, ℤ, pos, negsuc, ◌*ℤ◌, neg_ℤ, nat_abs, sym, refl, ap, ◌∙◌, subst, div-le_self, arith, w32, w64, SFits, to_z, of_z}
+use Rattle.std.proofs.Common.{◌≡◌, ℕ, zero, suc, ◌/◌, ◌≤◌, false, eqb, ℤ, pos, negsuc, ◌*ℤ◌, neg_ℤ, nat_abs, ap, ◌∙◌, div-le_self, arith, w32, w64, SFits, to_z, of_z}
 use borrow.Author.Numbers.{signed_product}
 use lib.Signed.{mag, quot_z}
 use Rattle.std.proofs.lemmas.Int.{to_z-of_z}

@@ -1,7 +1,7 @@
 -- Worked examples, and that code is read back as what it lays out.
-use Rattle.std.specs.Prelude.{◌≡◌, ℕ, ◌≤◌, List, [], ◌∷◌, pos, negsuc}
-use Rattle.expr.specs.declared.code.Relation.TheVariants.{Less, Equal, More}
-use Rattle.expr.specs.Values.{Expr, number, name, minus, plus, less, times, over, Value, is, wrong, Env, value, Comparison, passes, fails, faults, guard, made, spoilt, arguments}
+use Rattle.std.specs.Prelude.{◌≡◌, List, [], ◌∷◌, pos, negsuc}
+use Rattle.expr.specs.declared.code.Relation.TheVariants.{Less}
+use Rattle.expr.specs.Values.{Expr, number, name, minus, plus, less, times, over, is, wrong, Env, value, Comparison, passes, fails, faults, guard, made, spoilt, arguments}
 use Rattle.expr.specs.Codes.{code_of, comparisons_code, decoded, comparisons}
 
 -- every name is 5

@@ -1,5 +1,5 @@
 -- Expressions, their values and their faults; comparisons and guards.
-use Rattle.std.specs.Prelude.{ℕ, Bool, true, false, cond, not, List, [], ◌∷◌, ℤ, pos, ◌+ℤ◌, ◌-ℤ◌, ◌*ℤ◌, neg_ℤ, ◌==◌, int_div, int_le, int_lt, unsigned_abs}
+use Rattle.std.specs.Prelude.{ℕ, Bool, cond, not, List, [], ◌∷◌, ℤ, pos, ◌+ℤ◌, ◌-ℤ◌, ◌*ℤ◌, neg_ℤ, ◌==◌, int_div, int_le, int_lt, unsigned_abs}
 use Rattle.word.specs.Symbols.{in_range}
 use Rattle.expr.specs.declared.code.Relation.{Relation}
 use Rattle.expr.specs.declared.code.Relation.TheVariants.{Less, AtMost, Equal, Unequal, AtLeast, More}

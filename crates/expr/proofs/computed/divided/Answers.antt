@@ -1,4 +1,4 @@
-use Rattle.std.proofs.Common.{◌≡◌, eqb, nat_abs, sym, ap, ◌∙◌}
+use Rattle.std.proofs.Common.{eqb, nat_abs, sym, ap, ◌∙◌}
 use Rattle.std.proofs.lemmas.Bool.{cond-false}
 use Rattle.expr.specs.Values.{ranged, wrong}
 use Rattle.expr.proofs.Wide.{quotient, nonzero}

@@ -1,5 +1,5 @@
 use Rattle.std.proofs.Common.{◌*ℤ◌, sym, ap, ◌∙◌, w32, SFits, rules}
-use Rattle.expr.specs.Values.{is, both, ranged}
+use Rattle.expr.specs.Values.{both, ranged}
 use Rattle.expr.specs.Machine.{value_of}
 use Rattle.expr.proofs.Wide.{product}
 use Rattle.expr.proofs.computed.Computed.times.Goals as goal

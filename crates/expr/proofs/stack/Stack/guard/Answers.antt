@@ -1,6 +1,6 @@
-use Rattle.std.proofs.Common.{◌-◌, [], take, sym, ap, ◌∙◌, arith}
+use Rattle.std.proofs.Common.{◌-◌, take, sym, ◌∙◌, arith}
 use Rattle.std.proofs.lemmas.List.{at_drop_all}
-use Rattle.expr.specs.Machine.{env_of, held, verdict, verdict_of}
+use Rattle.expr.specs.Machine.{env_of, held, verdict}
 use Rattle.expr.proofs.Working.{one_on, stops, of_code}
 use Rattle.expr.proofs.stack.Stack.guard.Goals as goal
 
@@ -10,9 +10,9 @@ loop-c-preserved c =
     one_on (env_of c.args.names.now) (take (c.min.result - 0) c.args.code.now) c.loop-c.c-index (held c.loop-c.self) c.loop-c-test.true _ told.after told.decided
     ∙ c.loop-c.invariant
 
-pub returns-in-default : goal.returns-in-default
-returns-in-default c =
-    stops (env_of c.args.names.now) (take (c.min.result - 0) c.args.code.now) c.loop-c.c-index (held c.loop-c.self) c.loop-c-test.true c.step.result c.in-default.not-Passes c.step.ensures.decided
+pub returns-in_default : goal.returns-in_default
+returns-in_default c =
+    stops (env_of c.args.names.now) (take (c.min.result - 0) c.args.code.now) c.loop-c.c-index (held c.loop-c.self) c.loop-c-test.true c.step.result c.in_default.not-Passes c.step.ensures.decided
     ∙ c.loop-c.invariant
     ∙ of_code (env_of c.args.names.now) c.args.code.now c.min.result c.min.ensures
 
