@@ -1,5 +1,5 @@
 -- What the tests of bounds tell.
-use Rattle.std.proofs.Common.{◌≡◌, ◌≤◌, true, ◌&&◌, ℤ, pos, nat_abs, ◌≤ℤ◌, arith}
+use Rattle.std.proofs.Common.{◌≡◌, ◌≤◌, true, ℤ, pos, nat_abs, ◌≤ℤ◌, arith}
 use lib.Signed.{le_z}
 use Rattle.std.proofs.lemmas.Int.{ints}
 use Rattle.std.proofs.lemmas.Bool.{and_parts, leb-true}

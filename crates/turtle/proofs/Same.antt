@@ -1,5 +1,5 @@
 -- The tests of vectors and facings tell what they say.
-use Rattle.std.proofs.Common.{◌≡◌, ℕ, Bool, true, ◌&&◌, eqb, ℤ, ◌-ℤ◌, nat_abs, ap₂, arith}
+use Rattle.std.proofs.Common.{◌≡◌, ℕ, true, eqb, ℤ, ◌-ℤ◌, nat_abs, ap₂, arith}
 use Rattle.std.proofs.lemmas.Int.{ints}
 use Rattle.std.proofs.lemmas.Bool.{and_parts, eqb-true}
 use Rattle.turtle.specs.Vectors.{Vector, vec, same}

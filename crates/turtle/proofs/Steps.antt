@@ -1,11 +1,11 @@
 -- Where a step leads, and what is drawn on the way.
-use Rattle.std.proofs.Common.{◌≡◌, ℕ, zero, suc, ◌≤◌, Bool, true, false, cond, eqb, [], ◌∷◌, take, ℤ, pos, ◌+ℤ◌, ◌*ℤ◌, nat_abs, sym, refl, ap, ◌∙◌, arith, w32, to_z, of_z}
+use Rattle.std.proofs.Common.{◌≡◌, ℕ, zero, suc, Bool, true, false, cond, eqb, [], ◌∷◌, take, ℤ, pos, ◌+ℤ◌, ◌*ℤ◌, nat_abs, sym, refl, ap, ◌∙◌, arith, w32, to_z, of_z}
 use Rattle.std.proofs.lemmas.Int.{ints}
 use Rattle.std.proofs.lemmas.Bool.{both_ways, eq-eqb, ne_eqb}
 use Rattle.word.specs.declared.module.Module.{Module}
 use Rattle.word.specs.Records.{symbol_of}
 use Rattle.word.proofs.Sound.{a_exact}
-use Rattle.turtle.specs.Vectors.{Vector, vec, vector, plus, times}
+use Rattle.turtle.specs.Vectors.{vec, vector, plus, times}
 use Rattle.turtle.specs.Poses.{Stance, Stroke, all_in_bounds}
 use Rattle.turtle.specs.Deeds.{Deed, goes, draws, breaks, stride, ahead, line, is_length, done}
 use Rattle.turtle.specs.declared.command.Command.TheVariants.{Draw, Move}

@@ -1,5 +1,5 @@
 -- What some modules have the turtle do.
-use Rattle.std.specs.Prelude.{◌≡◌, ℕ, List, [], ◌∷◌, ℤ, pos, negsuc, codes, slice_index}
+use Rattle.std.specs.Prelude.{◌≡◌, List, [], ◌∷◌, ℤ, pos, negsuc, codes, slice_index}
 use Prim.Native.String.{String}
 use Rattle.word.specs.Symbols.{Symbol}
 use Rattle.turtle.specs.Poses.{Stance, stance, home, stroke}

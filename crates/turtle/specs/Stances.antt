@@ -1,5 +1,5 @@
 -- The poses and segments of the code, and how a turn changes a pose.
-use Rattle.std.specs.Prelude.{◌≡◌, ℕ, ◌<◌}
+use Rattle.std.specs.Prelude.{◌≡◌, ◌<◌}
 use Rattle.turtle.specs.Turns.{faces, rotated}
 use Rattle.turtle.specs.Poses.{Stance, stance, Stroke, stroke}
 use Rattle.turtle.specs.declared.pose.Pose.{Pose}

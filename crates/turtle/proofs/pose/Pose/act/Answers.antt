@@ -1,4 +1,4 @@
-use Rattle.std.proofs.Common.{sym, ap, ◌∙◌}
+use Rattle.std.proofs.Common.{ap, ◌∙◌}
 use Rattle.word.specs.Records.{symbol_of}
 use Rattle.turtle.specs.Deeds.{goes, stride, done}
 use Rattle.turtle.specs.Stances.{stance_of}

@@ -40,8 +40,8 @@ returns-in-4 c =
     let l = length_bounds c.args.length c.requires in
     ahead_by p.x p.y p.z c.args.length _ _ _ (p.orientation / 4) 4 c.in-4.is (omega (arith, ints)) (omega (arith, ints)) (omega (arith, ints))
 
-pub returns-in-default : goal.returns-in-default
-returns-in-default c =
+pub returns-in_default : goal.returns-in_default
+returns-in_default c =
     let p = c.args.self in
     let b = near (vec p.x p.y p.z) p.near in
     let l = length_bounds c.args.length c.requires in
