@@ -5,18 +5,18 @@ use Rattle.tokens.specs.Tokens.{is_name}
 use Rattle.tokens.proofs.Lexing.{row_some, by_digits, all_digits, by_name}
 use Rattle.tokens.proofs.reader.lex.first.Goals as goal
 
-pub returns-then-is-empty : goal.returns-then-is-empty
-returns-then-is-empty c =
+pub returns-then-is_empty : goal.returns-then-is_empty
+returns-then-is_empty c =
     let l = c.args.text.now in
     record { within = omega arith; part = refl; whole = refl; formed = nil_from_length l (search rules) }
 
-pub returns-then-is-ascii-digit : goal.returns-then-is-ascii-digit
-returns-then-is-ascii-digit c =
+pub returns-then-is_ascii_digit : goal.returns-then-is_ascii_digit
+returns-then-is_ascii_digit c =
     let l = c.args.text.now in
     let n = c.digits-n.result in
     let told = c.digits-n.ensures in
     let text : 0 < length l = search rules in
-    let some : 0 < n = row_some n l text (sym c.if-is-ascii-digit.ensures.value) told.stops in
+    let some : 0 < n = row_some n l text (sym c.if-is_ascii_digit.ensures.value) told.stops in
     let long : length (take n l) ≡ n = length-take-le n l told.within in
     record {
       within = told.within;
@@ -25,11 +25,11 @@ returns-then-is-ascii-digit c =
       formed = rw sub-zero (omega arith, all_digits n l told.within told.all);
     }
 
-pub returns-then-is-ascii-lowercase : goal.returns-then-is-ascii-lowercase
-returns-then-is-ascii-lowercase c =
+pub returns-then-is_ascii_lowercase : goal.returns-then-is_ascii_lowercase
+returns-then-is_ascii_lowercase c =
     let l = c.args.text.now in
     let text : 0 < length l = search rules in
-    let small = sym c.if-is-ascii-lowercase.ensures.value in
+    let small = sym c.if-is_ascii_lowercase.ensures.value in
     record {
       within = text;
       part = refl;
@@ -39,5 +39,5 @@ returns-then-is-ascii-lowercase c =
 
 pub returns : goal.returns
 returns c =
-    let told = c.sign-len-n.ensures in
+    let told = c.sign_len-n.ensures in
     record { within = told.within; part = rw sub-zero; whole = rw sub-zero told.whole; formed = rw sub-zero told.formed }
