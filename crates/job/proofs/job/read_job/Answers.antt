@@ -18,16 +18,16 @@ returns-then-bytes-gt-LONGEST c =
 pub returns : goal.returns
 returns c =
     let job = c.args.bytes.now in
-    let first = c.cut-line.result.0.now in
+    let first = c.cut_line.result.0.now in
     let alone : length first ≡ 1 = omega (arith, ltb-true, ltb-false) in
     let low : 48 ≤ get_or first 0 0 = omega (arith, ltb-false) in
     let high : get_or first 0 0 ≤ 56 = omega (arith, ltb-true) in
-    let digit = ap is_digit_to_8 (sym c.cut-line.ensures.first) ∙ digit_alone first alone low high in (
+    let digit = ap is_digit_to_8 (sym c.cut_line.ensures.first) ∙ digit_alone first alone low high in (
       accepted job c.find.result c.if-bytes-gt-LONGEST.false c.find.ensures (omega arith) digit,
       record {
-        generations_are = worth_alone first alone ∙ ap worth c.cut-line.ensures.first;
+        generations_are = worth_alone first alone ∙ ap worth c.cut_line.ensures.first;
         few = omega arith;
-        seed_is = c.cut-line-2.ensures.first ∙ ap (λ ls. get_or ls 0 []) c.cut-line.ensures.others ∙ get_or-drop 1 (lines_of job) 0 [];
-        book_has = ap (numbered 3) (c.cut-line-2.ensures.others ∙ ap (drop 1) c.cut-line.ensures.others ∙ drop-drop 1 1 (lines_of job));
+        seed_is = c.cut_line-2.ensures.first ∙ ap (λ ls. get_or ls 0 []) c.cut_line.ensures.others ∙ get_or-drop 1 (lines_of job) 0 [];
+        book_has = ap (numbered 3) (c.cut_line-2.ensures.others ∙ ap (drop 1) c.cut_line.ensures.others ∙ drop-drop 1 1 (lines_of job));
       },
     )
