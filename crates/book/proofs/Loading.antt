@@ -1,9 +1,9 @@
 -- The same entries in any order make the same book.
-use Rattle.std.proofs.Common.{◌≡◌, ℕ, Bool, true, false, ◌||◌, List, [], ◌∷◌, sym, refl, ap, ◌∙◌}
+use Rattle.std.proofs.Common.{◌≡◌, ℕ, Bool, true, false, ◌||◌, List, sym, refl, ap, ◌∙◌}
 use mathlib.Core.Path.{fun_ext}
 use Rattle.word.specs.Symbols.{among}
 use Rattle.book.specs.Rules.{Rule}
-use Rattle.book.specs.Books.{Book, empty, Entry, rule, ignores, with_rule, with_entry, loaded, Differs, DiffersAll, Distinct, Reordered, none, keep, swap, then, AnyOrder}
+use Rattle.book.specs.Books.{Book, empty, Entry, rule, ignores, with_entry, loaded, Differs, DiffersAll, Distinct, Reordered, none, keep, swap, then, AnyOrder}
 use Rattle.book.proofs.Ordering.{commute}
 
 or_swap : (x y z : Bool) → (x || (y || z)) ≡ (y || (x || z))

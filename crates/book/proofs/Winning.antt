@@ -1,10 +1,9 @@
 -- The label of a book.
-use Rattle.std.proofs.Common.{◌≡◌, ℕ, ◌+◌, ◌<◌, Bool, true, false, cond, ◌&&◌, ◌||◌, eqb, ltb, ◌⊎◌, List, [], ◌∷◌, is_some, Some, None, Option, sym, refl, ap, ◌∙◌, subst, inl, inr, arith}
-use Rattle.std.proofs.lemmas.Bool.{cond-true, cond-false, both_ways, ltb-true, eqb-true, and_parts, or_cases}
-use Rattle.word.specs.Symbols.{Symbol}
+use Rattle.std.proofs.Common.{◌≡◌, ℕ, ◌+◌, ◌<◌, Bool, true, false, cond, ◌&&◌, eqb, ltb, ◌⊎◌, List, [], ◌∷◌, is_some, Some, None, Option, sym, refl, ap, ◌∙◌, subst, inl, inr, arith}
+use Rattle.std.proofs.lemmas.Bool.{both_ways, ltb-true, eqb-true, and_parts, or_cases}
 use Rattle.book.specs.Rules.{Form, Rule}
 use Rattle.book.specs.Books.{Book, empty, Entry, rule, ignores, rank, rank_of, precedes, with_rule, with_entry, loaded, Differs, DiffersAll, Distinct}
-use Rattle.book.specs.Winners.{first, decides, winner}
+use Rattle.book.specs.Winners.{first, decides}
 use Rattle.book.specs.Label.{counted, neighbours, GrowsBefore, Holds, Label}
 use Rattle.book.proofs.Ordering.{total, through}
 
