@@ -17,7 +17,7 @@ use Rattle.word.proofs.When.{when_true, when_false}
 use Rattle.seed.specs.Seeds.{cut, with_sign, integer, prefixed, integers, at_most_3, parameters, closed, bare, with_list, form, Outcome, tells, wrong, bracketed, judged, outcome, stopped, onto, reads, told_by}
 use Rattle.seed.specs.Written.{Writable, ReadsBack}
 use Rattle.seed.proofs.Cutting.{cut_bare, cut_three}
-use Rattle.seed.proofs.Telling.{reads_tells}
+use Rattle.seed.specs.Telling.{reads_tells}
 
 -- no byte is c
 Free : ℕ → List ℕ → Type 0

@@ -1,6 +1,6 @@
 use Rattle.std.proofs.Common.{sym, arith}
 use Rattle.seed.specs.Parts.{numbers}
-use Rattle.seed.proofs.Forming.{form_listed}
+use Rattle.seed.specs.Forming.{form_listed}
 use Rattle.seed.proofs.module.read_form.Goals as goal
 
 pub returns-in-Some : goal.returns-in-Some

@@ -4,7 +4,7 @@ use Rattle.word.specs.Symbols.{symbol, sound}
 use Rattle.word.specs.Records.{symbol_of}
 use Rattle.seed.specs.Parts.{drafted}
 use Rattle.seed.specs.Seeds.{bracketed}
-use Rattle.seed.proofs.Forming.{judged_by, sound_read}
+use Rattle.seed.specs.Forming.{judged_by, sound_read}
 use Rattle.seed.proofs.module.read_module.Goals as goal
 
 pub returns-in-Some-new : goal.returns-in-Some-new

@@ -6,7 +6,7 @@ use Rattle.std.proofs.lemmas.List.{take_rest}
 use Rattle.word.specs.Text.{split}
 use Rattle.seed.specs.Seeds.{integer, integers}
 use Rattle.seed.specs.Parts.{numbers}
-use Rattle.seed.proofs.Listing.{lacks, too_many, goes_on, ends, held}
+use Rattle.seed.specs.Listing.{lacks, too_many, goes_on, ends, held}
 use Rattle.seed.proofs.parameters.list.read_list.Goals as goal
 
 pub returns-in-default : goal.returns-in-default

@@ -2,7 +2,7 @@ use Rattle.std.proofs.Common.{◌≡◌, ℕ, ◌-◌, ◌≤◌, false, List, �
 use native.Mathlib.Nat.{sub-zero}
 use Rattle.std.proofs.lemmas.List.{take_rest}
 use Rattle.seed.specs.Seeds.{cut, Outcome, wrong, outcome}
-use Rattle.seed.proofs.Telling.{ends_clean, ends_open, goes_wrong, goes_on, stays_shallow}
+use Rattle.seed.specs.Telling.{ends_clean, ends_open, goes_wrong, goes_on, stays_shallow}
 use Rattle.seed.proofs.seed.source.SeedSource.draw.Goals as goal
 
 -- what is left of the text, as the code cuts it
