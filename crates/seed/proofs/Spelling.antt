@@ -1,5 +1,5 @@
 -- The written form of a word is read as that word.
-use Rattle.std.proofs.Common.{◌≡◌, ℕ, zero, suc, ◌+◌, ◌-◌, ◌^◌, ◌<◌, ◌≤◌, Bool, true, false, cond, not, ◌&&◌, ◌||◌, eqb, ltb, leb, ◌⊎◌, List, [], ◌∷◌, ◌++◌, map, length, get_or, take, drop, ℤ, pos, negsuc, nat_abs, Some, None, decimal, Option, sym, refl, ap, ◌∙◌, subst, inl, inr, append_assoc, append-nil, arith, length-append}
+use Rattle.std.proofs.Common.{◌≡◌, ℕ, zero, suc, ◌-◌, ◌^◌, ◌<◌, ◌≤◌, Bool, true, false, cond, not, ◌&&◌, ◌||◌, eqb, ltb, leb, ◌⊎◌, List, [], ◌∷◌, ◌++◌, map, length, get_or, take, drop, ℤ, pos, negsuc, Some, None, decimal, Option, sym, refl, ap, ◌∙◌, subst, inl, inr, append_assoc, append-nil, arith, length-append}
 use Rattle.std.specs.Option.{option_map}
 use Rattle.std.specs.Int.{IsInRange}
 use Rattle.std.specs.Fmt.{signed_decimal}
@@ -9,15 +9,15 @@ use Rattle.std.proofs.lemmas.List.{get_or_append_left, get_or-append_right, get_
 use Rattle.std.proofs.lemmas.Bool.{and_parts, and_from, cond-true, cond-false, leb-true, le-leb, lt-ltb, le-ltb, eq-eqb, ne_eqb, cases_lt, both_ways, eqb-true, not-true}
 use Rattle.std.proofs.lemmas.Bool.Decides.{nat_tests as told}
 use Rattle.word.specs.Symbols.{Symbol, is_letter, is_bracket, is_open, is_close, in_range, all_in_range, valid}
-use Rattle.word.specs.Words.{clean, Told, after, all_valid, nested}
+use Rattle.word.specs.Words.{clean, after, all_valid, nested}
 use Rattle.word.specs.Text.{First, worth, number, split, further, listed, written, spelled}
 use Rattle.word.proofs.Digits.{own, digit}
 use Rattle.word.proofs.Splits.{split_first}
 use Rattle.word.proofs.When.{when_true, when_false}
-use Rattle.seed.specs.Seeds.{cut, with_sign, integer, prefixed, integers, at_most_3, parameters, closed, bare, with_list, form, Outcome, tells, wrong, bracketed, judged, outcome, stopped, onto, reads, told_by}
-use Rattle.seed.specs.Written.{Writable, ReadsBack}
+use Rattle.seed.specs.Seeds.{cut, with_sign, integer, prefixed, integers, at_most_3, closed, bare, with_list, form, tells, wrong, bracketed, judged, outcome, stopped, onto, reads, told_by}
+use Rattle.seed.specs.Written.{ReadsBack}
 use Rattle.seed.proofs.Cutting.{cut_bare, cut_three}
-use Rattle.seed.proofs.Telling.{reads_tells}
+use Rattle.seed.specs.Telling.{reads_tells}
 
 -- no byte is c
 Free : ℕ → List ℕ → Type 0

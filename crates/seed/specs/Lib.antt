@@ -3,3 +3,7 @@ pub mod Spare
 pub mod Parts
 pub mod Left
 pub mod Written
+pub mod Listing
+pub mod Forming
+pub mod Telling
+pub mod Lawfully

@@ -3,7 +3,7 @@ use Rattle.std.specs.Prelude.{ℕ, suc, ◌-◌, Bool, true, false, cond, ◌&&�
 use Rattle.std.specs.Option.{option_map}
 use Rattle.word.specs.Symbols.{Symbol, is_letter, is_bracket, is_open, is_close, all_in_range}
 use Rattle.word.specs.Text.{number, glued, split}
-use Rattle.word.specs.Words.{Ending, clean, broken, Told, Meaning, after}
+use Rattle.word.specs.Words.{clean, broken, Told, Meaning, after}
 
 -- The bytes of each module: one byte and, where a `(` follows it, all that stands on to the next `)`.
 abbrev pub cut : Bool → List ℕ → List (List ℕ)

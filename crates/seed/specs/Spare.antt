@@ -1,5 +1,5 @@
 -- The numbers of a list of parameters that do not count. Internal.
-use Rattle.std.specs.Prelude.{ℕ, Bool, true, ◌&&◌, ◌||◌, ℤ, ◌==◌, nat_lt, unsigned_abs}
+use Rattle.std.specs.Prelude.{ℕ, Bool, ◌&&◌, ◌||◌, ℤ, ◌==◌, nat_lt, unsigned_abs}
 
 -- each number that does not count is 0
 abbrev pub spare : ℕ → ℤ → ℤ → ℤ → Bool

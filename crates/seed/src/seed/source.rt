@@ -2,6 +2,7 @@ ghost use Rattle.std.specs.Prelude.{◌≡◌};
 ghost use Rattle.seed.specs.Seeds.{seeded};
 ghost use Rattle.seed.specs.Left.{left};
 ghost use Rattle.seed.specs.Written.{ReadsBack};
+ghost use Rattle.seed.specs.Lawfully.{lawfully};
 
 use super::super::module::{number_of, opened_after, own_len, read_module};
 use super::Seed;
@@ -29,6 +30,8 @@ impl<'a> Seed<'a> {
 
 impl<'a> Source for Seed<'a> {
     ghost means = { λ s. left s.text.now s.at s.told s.opened };
+
+    ghost lawful = { λ s. lawfully s.text.now s.at s.told s.opened s.within s.counted s.shallow };
 
     fn draw(&mut self) -> Drawn {
         let text = self.text;

@@ -1,7 +1,7 @@
 use Rattle.std.proofs.Common.{subst, arith}
 use Rattle.std.proofs.lemmas.List.{take_rest}
 use Rattle.word.specs.Text.{First}
-use Rattle.seed.proofs.Cutting.{cut_bare, cut_listed}
+use Rattle.seed.proofs.Cutting.{cut_listed}
 use Rattle.seed.proofs.module.own_len.Goals as goal
 
 pub returns : goal.returns

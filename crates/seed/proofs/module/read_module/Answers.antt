@@ -1,10 +1,10 @@
-use Rattle.std.proofs.Common.{◌≡◌, true, false, sym, ap, ◌∙◌, w32, SFits, to_z, of_z, rules}
+use Rattle.std.proofs.Common.{◌≡◌, true, false, sym, ap, ◌∙◌, w32, SFits, rules}
 use Rattle.std.proofs.lemmas.Int.{to_z-of_z}
 use Rattle.word.specs.Symbols.{symbol, sound}
 use Rattle.word.specs.Records.{symbol_of}
 use Rattle.seed.specs.Parts.{drafted}
 use Rattle.seed.specs.Seeds.{bracketed}
-use Rattle.seed.proofs.Forming.{judged_by, sound_read}
+use Rattle.seed.specs.Forming.{judged_by, sound_read}
 use Rattle.seed.proofs.module.read_module.Goals as goal
 
 pub returns-in-Some-new : goal.returns-in-Some-new

@@ -4,7 +4,7 @@ use Rattle.std.proofs.lemmas.List.{take_rest}
 use Rattle.std.proofs.lemmas.Bool.{ltb-false}
 use Rattle.word.specs.Text.{number}
 use Rattle.seed.specs.Seeds.{with_sign}
-use Rattle.seed.proofs.Listing.{integer_minus}
+use Rattle.seed.specs.Listing.{integer_minus}
 use Rattle.seed.proofs.parameters.list.integer.Goals as goal
 
 pub returns-in-45 : goal.returns-in-45

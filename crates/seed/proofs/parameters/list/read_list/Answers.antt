@@ -1,4 +1,4 @@
-use Rattle.std.proofs.Common.{◌≡◌, ◌+◌, ◌<◌, ◌≤◌, [], ◌∷◌, ◌++◌, length, take, sym, ap, ◌∙◌, arith, w32, SFits, rules}
+use Rattle.std.proofs.Common.{◌+◌, ◌<◌, ◌≤◌, [], ◌∷◌, ◌++◌, length, take, sym, ap, ◌∙◌, arith, w32, SFits, rules}
 use Rattle.std.proofs.lemmas.Int.{to_z-of_z}
 use native.Mathlib.Nat.{sub-zero}
 use Rattle.std.specs.Option.{option_map}
@@ -6,23 +6,23 @@ use Rattle.std.proofs.lemmas.List.{take_rest}
 use Rattle.word.specs.Text.{split}
 use Rattle.seed.specs.Seeds.{integer, integers}
 use Rattle.seed.specs.Parts.{numbers}
-use Rattle.seed.proofs.Listing.{lacks, too_many, goes_on, ends, held}
+use Rattle.seed.specs.Listing.{lacks, too_many, goes_on, ends, held}
 use Rattle.seed.proofs.parameters.list.read_list.Goals as goal
 
-pub returns-in-default : goal.returns-in-default
-returns-in-default c =
+pub returns-in_default : goal.returns-in_default
+returns-in_default c =
     let n = c.find-n.result in
     let rest = c.loop-z.rest.now in
     sym (lacks c.args.list.now rest (numbers c.loop-z.found) n c.loop-z.invariant c.find-n.ensures
-    (ap (λ k. integer (take k rest)) (sym (sub-zero n)) ∙ sym c.in-default.ensures))
+    (ap (λ k. integer (take k rest)) (sym (sub-zero n)) ∙ sym c.in_default.ensures))
 
-pub returns-in-default-with : goal.returns-in-default-with
-returns-in-default-with c =
+pub returns-in_default-with : goal.returns-in_default-with
+returns-in_default-with c =
     let n = c.find-n.result in
     let rest = c.loop-z.rest.now in
     sym (too_many c.args.list.now rest (numbers c.loop-z.found) n c.loop-z.invariant c.find-n.ensures c.in-Some.z
     (ap (λ k. integer (take k rest)) (sym (sub-zero n)) ∙ sym c.in-Some.ensures)
-    (held c.loop-z.found ∙ c.in-default-with.ensures))
+    (held c.loop-z.found ∙ c.in_default-with.ensures))
 
 pub returns-then-n-rest : goal.returns-then-n-rest
 returns-then-n-rest c =

@@ -2,7 +2,7 @@ use Rattle.std.proofs.Common.{◌≡◌, ℕ, ◌-◌, ◌≤◌, false, List, �
 use native.Mathlib.Nat.{sub-zero}
 use Rattle.std.proofs.lemmas.List.{take_rest}
 use Rattle.seed.specs.Seeds.{cut, Outcome, wrong, outcome}
-use Rattle.seed.proofs.Telling.{ends_clean, ends_open, goes_wrong, goes_on, stays_shallow}
+use Rattle.seed.specs.Telling.{ends_clean, ends_open, goes_wrong, goes_on, stays_shallow}
 use Rattle.seed.proofs.seed.source.SeedSource.draw.Goals as goal
 
 -- what is left of the text, as the code cuts it
@@ -23,30 +23,34 @@ returns-then-self-text c =
     let s = c.args.self.now in
     ends_open s.text.now (omega arith) s.at s.told s.opened (omega arith) (λ e. omega arith)
 
-pub invariant-of-self : goal.invariant-of-self
-invariant-of-self c =
+pub invariant_of-self : goal.invariant_of-self
+invariant_of-self c =
     let s = c.args.self.now in
-    let size = c.own-len-size.result in
+    let size = c.own_len-size.result in
     let told = own_of s.text.now s.at size s.opened _ c.in-Ok.ensures in
     let low = stays_shallow s.opened (take size (drop s.at s.text.now)) _ s.shallow told in
-    let room = simp (length-take, length-drop) at c.own-len-size.ensures.within in
-    (omega (arith, room, s.within), (omega (arith, c.own-len-size.ensures.some, s.counted), (subst (λ n. n ≤ 32) (sym c.opened-after-self.ensures) low, tt)))
+    let room = simp (length-take, length-drop) at c.own_len-size.ensures.within in
+    record {
+      within = omega (arith, room, s.within);
+      counted = omega (arith, c.own_len-size.ensures.some, s.counted);
+      shallow = subst (λ n. n ≤ 32) (sym c.opened_after-self.ensures) low;
+    }
 
 pub returns-in-Ok : goal.returns-in-Ok
 returns-in-Ok c =
     let s = c.args.self.now in
-    let size = c.own-len-size.result in
+    let size = c.own_len-size.result in
     goes_on s.text.now (omega arith) s.at s.told s.opened size
-    (first_of s.text.now s.at size c.own-len-size.ensures.first)
-    c.in-Ok.module c.opened-after-self.result
+    (first_of s.text.now s.at size c.own_len-size.ensures.first)
+    c.in-Ok.module c.opened_after-self.result
     (own_of s.text.now s.at size s.opened _ c.in-Ok.ensures)
-    c.opened-after-self.ensures
+    c.opened_after-self.ensures
 
 pub returns-in-Err : goal.returns-in-Err
 returns-in-Err c =
     let s = c.args.self.now in
-    let size = c.own-len-size.result in
+    let size = c.own_len-size.result in
     goes_wrong s.text.now (omega arith) s.at s.told s.opened size
-    (first_of s.text.now s.at size c.own-len-size.ensures.first)
-    c.number-of.result
-    (own_of s.text.now s.at size s.opened (wrong c.number-of.result) (ap wrong c.number-of.ensures ∙ c.in-Err.ensures))
+    (first_of s.text.now s.at size c.own_len-size.ensures.first)
+    c.number_of.result
+    (own_of s.text.now s.at size s.opened (wrong c.number_of.result) (ap wrong c.number_of.ensures ∙ c.in-Err.ensures))

@@ -1,15 +1,15 @@
--- What the form of a module says of its letter and parameters.
-use Rattle.std.proofs.Common.{◌≡◌, ℕ, zero, suc, ◌+◌, ◌-◌, ◌<◌, ◌≤◌, Bool, true, false, cond, ◌&&◌, ◌||◌, eqb, ltb, leb, List, [], ◌∷◌, length, get_or, take, drop, ℤ, nat_abs, Some, None, Option, sym, refl, ap, ◌∙◌, arith}
+-- What the form of a module says of its letter and parameters. Lemmas of the law of sources: internal.
+use Rattle.std.proofs.Common.{◌≡◌, ℕ, zero, suc, ◌-◌, ◌<◌, ◌≤◌, Bool, true, false, cond, ◌&&◌, ◌||◌, eqb, leb, List, [], ◌∷◌, length, get_or, take, drop, ℤ, Some, None, Option, sym, refl, ap, ◌∙◌, arith}
 use Rattle.std.specs.Option.{option_map}
-use Rattle.std.proofs.lemmas.Bool.{eq-eqb, cond-true, cond-false, leb-true}
+use Rattle.std.proofs.lemmas.Bool.{eq-eqb, cond-true, leb-true}
 use Rattle.std.proofs.lemmas.Bool.Decides.{nat_tests as told}
 use Rattle.word.specs.Symbols.{Symbol, is_letter, is_bracket, in_range, all_in_range, may_have, fits, sound}
 use Rattle.word.specs.Text.{split}
 use Rattle.seed.specs.Spare.{spare}
 use Rattle.seed.specs.declared.parameters.Parameters.{Parameters}
 use Rattle.seed.specs.Parts.{numbers}
-use Rattle.seed.specs.Seeds.{integers, parameters, at_most_3, closed, bare, with_list, form, Outcome, wrong, bracketed, judged, outcome}
-use Rattle.seed.proofs.Listing.{held}
+use Rattle.seed.specs.Seeds.{integers, parameters, at_most_3, closed, bare, with_list, form, wrong, bracketed, judged, outcome}
+use Rattle.seed.specs.Listing.{held}
 
 -- a letter and its list
 pub form_listed : (own : List ℕ) (zs : List ℤ) → 2 < length own → is_letter (get_or own 0 0) ≡ true → get_or own (length own - 1) 0 ≡ 41 → parameters (take (length own - 1 - 2) (drop 2 own)) ≡ Some zs → form own ≡ Some (record { letter = get_or own 0 0; params = zs })

@@ -1,16 +1,15 @@
--- What a seed still tells, step by step.
-use Rattle.std.proofs.Common.{◌≡◌, ℕ, zero, suc, pred, ◌+◌, ◌-◌, ◌<◌, ◌≤◌, Bool, true, false, cond, ◌&&◌, eqb, ltb, leb, List, [], ◌∷◌, length, take, drop, Some, None, Option, sym, refl, ap, ◌∙◌, add-one, arith}
+-- What a seed still tells, step by step. Lemmas of the law of sources: internal.
+use Rattle.std.proofs.Common.{◌≡◌, ℕ, suc, ◌+◌, ◌<◌, ◌≤◌, Bool, true, false, cond, ◌&&◌, eqb, ltb, leb, List, [], ◌∷◌, length, take, drop, Some, None, Option, sym, refl, ap, ◌∙◌, add-one, arith}
 use Rattle.std.proofs.lemmas.List.{drop_all, drop-drop}
 use Rattle.std.proofs.lemmas.Bool.{eq-eqb, ne_eqb, le-ltb, lt-ltb}
 use Rattle.std.proofs.lemmas.Bool.Decides.{nat_tests as told}
 use Rattle.word.specs.declared.module.Module.{Module}
-use Rattle.word.specs.declared.fault.Fault.{Fault}
 use Rattle.word.specs.declared.drawn.Drawn.TheVariants.{Next, Clean, Broken}
 use Rattle.word.specs.Symbols.{Symbol, is_open, is_close, all_in_range}
-use Rattle.word.specs.Words.{Ending, clean, broken, Told, Meaning, after}
+use Rattle.word.specs.Words.{clean, broken, Told, after}
 use Rattle.word.specs.Records.{symbol_of, Draws}
 use Rattle.word.proofs.When.{when_true, when_false}
-use Rattle.seed.specs.Seeds.{cut, form, Outcome, tells, wrong, bracketed, judged, outcome, stopped, onto, reads}
+use Rattle.seed.specs.Seeds.{cut, form, Outcome, tells, wrong, judged, outcome, stopped, onto, reads}
 use Rattle.seed.specs.Left.{left}
 
 reads_wrong : (d place : ℕ) (own : List ℕ) (rest : List (List ℕ)) (cause : ℕ) → outcome d own ≡ wrong cause → reads d place (own ∷ rest) ≡ stopped cause place

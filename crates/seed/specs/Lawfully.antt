@@ -1,14 +1,13 @@
--- Part way through any text, a seed is a lawful source.
-use Rattle.std.proofs.Common.{◌≡◌, ℕ, zero, suc, ◌+◌, ◌-◌, ◌<◌, ◌≤◌, Bool, true, false, cond, not, ◌&&◌, eqb, ltb, leb, List, [], ◌∷◌, length, drop, Some, None, Option, sym, refl, ap, ◌∙◌, subst, arith, length-drop}
-use Rattle.std.proofs.lemmas.Bool.{and_from, le-leb, leb-true, ltb-false, eqb-true, eq-eqb}
-use Rattle.std.proofs.lemmas.Bool.Decides.{nat_tests as told}
-use Rattle.word.specs.Symbols.{Symbol, is_open, is_close, is_bracket, is_letter, all_in_range, may_have, valid}
-use Rattle.word.specs.Words.{Ending, clean, broken, Told, Meaning, after, all_valid, nested, in_bounds, Lawful}
+-- Part way through any text, a seed is a lawful source. Lemmas of the law of sources: internal.
+use Rattle.std.proofs.Common.{◌≡◌, ℕ, suc, ◌+◌, ◌-◌, ◌≤◌, Bool, true, false, cond, ◌&&◌, eqb, ltb, leb, List, [], ◌∷◌, length, drop, Some, None, Option, refl, subst, arith, length-drop}
+use Rattle.std.proofs.lemmas.Bool.{and_from, le-leb, ltb-false}
+use Rattle.word.specs.Symbols.{Symbol, is_open, is_close, is_bracket, is_letter, all_in_range, valid}
+use Rattle.word.specs.Words.{clean, Told, after, all_valid, nested, in_bounds, Lawful}
 use Rattle.word.specs.Text.{glued}
 use Rattle.seed.specs.Seeds.{cut, form, Outcome, tells, wrong, judged, outcome, stopped, onto, reads}
 use Rattle.seed.specs.Left.{left}
-use Rattle.seed.proofs.Forming.{formed}
-use Rattle.seed.proofs.Telling.{Proper, proper, stays_shallow}
+use Rattle.seed.specs.Forming.{formed}
+use Rattle.seed.specs.Telling.{Proper, proper, stays_shallow}
 
 -- a text is cut into no more pieces than it has bytes
 few_glued : (b : ℕ) (ps : List (List ℕ)) (n : ℕ) → length ps ≤ n → length (glued b ps) ≤ suc n
