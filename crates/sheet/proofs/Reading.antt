@@ -1,14 +1,14 @@
 -- A record read back is the segment.
-use Rattle.std.proofs.Common.{◌≡◌, ℕ, zero, suc, ◌+◌, ◌-◌, ◌*◌, ◌/◌, ◌%◌, ◌^◌, ◌<◌, ◌≤◌, true, false, cond, ltb, List, [], ◌∷◌, ◌++◌, ℤ, pos, negsuc, neg_ℤ, nat_abs, sym, refl, ap, ◌∙◌, subst, pow-suc, arith}
+use Rattle.std.proofs.Common.{◌≡◌, ℕ, zero, suc, ◌+◌, ◌-◌, ◌*◌, ◌/◌, ◌%◌, ◌^◌, ◌<◌, ◌≤◌, ltb, ℤ, pos, negsuc, neg_ℤ, nat_abs, ap, ◌∙◌, pow-suc, arith}
 use Rattle.std.proofs.lemmas.Nat.{div-add-mod', div_below}
 use Rattle.std.proofs.lemmas.List.Sums.{fold_push}
 use Rattle.std.proofs.lemmas.Bool.{lt-ltb, le-ltb, cond-true, cond-false}
 use Rattle.turtle.specs.Vectors.{vec}
-use Rattle.turtle.specs.Poses.{Stroke, stroke}
+use Rattle.turtle.specs.Poses.{stroke}
 use Rattle.turtle.specs.Stances.{stroke_of}
 use Rattle.turtle.specs.declared.segment.Segment.{Segment}
 use Rattle.turtle.proofs.Bounds.{near}
-use Rattle.sheet.specs.Records.{twos, packed, fields, last_bytes, record_of, number, cut, signed, unpacked, read_back}
+use Rattle.sheet.specs.Records.{twos, last_bytes, record_of, number, cut, signed, unpacked, read_back}
 
 -- a coordinate fits 16 bits
 pub fits : (z : ℤ) → nat_abs z ≤ 30_000 → twos 16 z < 2 ^ 16

@@ -4,6 +4,7 @@ ghost use Rattle.turtle.specs.Stances.{stroke_of};
 ghost use Rattle.sheet.specs.Pages.{room, page_content, Writes};
 ghost use Rattle.sheet.specs.Recording.{Recording};
 ghost use Rattle.sheet.specs.Sheets.{blank, Puts};
+ghost use Rattle.sheet.specs.Space.{stays_few, room_few};
 
 use super::record::{BYTES, write_record};
 use super::sheet::{MOST, NoSpace, Sheet};
@@ -41,6 +42,8 @@ impl<'a> Page<'a> {
 
 impl<'a> Sheet for Page<'a> {
     ghost means = { page_content };
+
+    ghost few = { λ p. stays_few (room p.buffer.now) p.tally.count (room_few p.buffer.now) p.tally.few };
 
     // Beside what any sheet promises: every byte of the buffer, and that it is still the one that was lent.
     fn put(&mut self, segment: Segment) -> Result<(), NoSpace>

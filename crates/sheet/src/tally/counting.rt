@@ -2,7 +2,8 @@ ghost use Rattle.std.specs.Prelude.{◌≡◌, ◌<◌};
 ghost use Rattle.turtle.specs.Stances.{stroke_of};
 ghost use Rattle.sheet.specs.Sheets.{blank};
 ghost use Rattle.sheet.specs.Tallies.{content, Adds};
-ghost use Rattle.std.proofs.Common.{rules, arith};
+ghost use Rattle.std.proofs.Common.{lit≤};
+ghost use Rattle.sheet.specs.Space.{stays_few};
 
 use super::super::sheet::{MOST, NoSpace, Sheet};
 use super::Tally;
@@ -55,7 +56,7 @@ impl Tally {
 impl Sheet for Tally {
     ghost means = { content 16_000_000 };
 
-    ghost few = { first_of (Prim.search rules, Prim.grind (arith, Self.row.coded.inj)) };
+    ghost few = { λ t. stays_few 16_000_000 t.count (lit≤ tt) t.few };
 
     fn put(&mut self, segment: Segment) -> Result<(), NoSpace> {
         if self.space() == 0 {

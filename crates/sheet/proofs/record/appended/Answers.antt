@@ -1,4 +1,4 @@
-use Rattle.std.proofs.Common.{◌-◌, ◌*◌, ◌^◌, ◌∙◌, ap₂, arith}
+use Rattle.std.proofs.Common.{◌-◌, ◌∙◌, ap₂, arith}
 use lib.Bits.{bit_or}
 use Rattle.std.proofs.lemmas.Nat.{shl_whole, or_shifted}
 use Rattle.sheet.proofs.record.appended.Goals as goal

@@ -7,4 +7,4 @@ pub returns : goal.returns
 unfolding record_of
 returns c =
     ap (λ (r : List ℕ). r ++ drop 8 c.args.bytes.now)
-    (c.copy-from-slice.ensures.after ∙ c.to-be-bytes.ensures ∙ big_endian c.pack.result ∙ ap (last_bytes 8) c.pack.ensures)
+    (c.copy_from_slice.ensures.after ∙ c.to_be_bytes.ensures ∙ big_endian c.pack.result ∙ ap (last_bytes 8) c.pack.ensures)

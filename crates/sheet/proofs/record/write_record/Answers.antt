@@ -6,4 +6,4 @@ use Rattle.sheet.proofs.record.write_record.Goals as goal
 
 pub returns : goal.returns
 returns c =
-    lent c.args.buffer.now c.args.at (record_of (stroke_of c.args.segment)) c.write-fields.new.bytes (omega arith) c.write-fields.ensures
+    lent c.args.buffer.now c.args.at (record_of (stroke_of c.args.segment)) c.write_fields.new.bytes (omega arith) c.write_fields.ensures
