@@ -7,7 +7,7 @@ use Rattle.rules.specs.Wrong.{some_over}
 use Rattle.rules.proofs.Picking.{quiet}
 use Rattle.rules.proofs.Searching.{searched, opened}
 use Rattle.rules.proofs.judge.has_large.Goals as goal
-use Rattle.rules.proofs.judge.has_large.Goals.{in-Number+else-n-gt-LARGEST, in-default}
+use Rattle.rules.proofs.judge.has_large.Goals.{in-Number+else-n-gt-LARGEST, in_default}
 
 abbrev large : List Code → Bool
 large cs = some_over (numbers_in cs)
@@ -27,8 +27,8 @@ loop-c-preserved c =
       | in-Number+else-n-gt-LARGEST w ↦
           sym (ap (λ (x : Code). large (x ∷ drop (i + 1) cs)) w.in-Number.is ∙ ap (λ (t : Bool). t || large (drop (i + 1) cs)) (le-ltb 1000000 w.in-Number.n w.if-n-gt-LARGEST.false))
           ∙ opened large cs i c.loop-c.invariant Blank c.loop-c-test.true
-      | in-default w ↦
-          sym (ap (λ (xs : List ℕ). some_over (xs ++ numbers_in (drop (i + 1) cs))) (quiet (λ n. n ∷ []) (λ x. []) (get_or cs i Blank) (λ n e. absurd (w.in-default.not-Number n e)) (λ x e. refl)))
+      | in_default w ↦
+          sym (ap (λ (xs : List ℕ). some_over (xs ++ numbers_in (drop (i + 1) cs))) (quiet (λ n. n ∷ []) (λ x. []) (get_or cs i Blank) (λ n e. absurd (w.in_default.not-Number n e)) (λ x e. refl)))
           ∙ opened large cs i c.loop-c.invariant Blank c.loop-c-test.true
     ]
 

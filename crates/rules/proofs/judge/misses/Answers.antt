@@ -6,7 +6,7 @@ use Rattle.rules.specs.Wrong.{some_missing}
 use Rattle.rules.proofs.Picking.{quiet}
 use Rattle.rules.proofs.Searching.{searched, opened}
 use Rattle.rules.proofs.judge.misses.Goals as goal
-use Rattle.rules.proofs.judge.misses.Goals.{in-Name+else-not-has, in-default}
+use Rattle.rules.proofs.judge.misses.Goals.{in-Name+else-not-has, in_default}
 
 abbrev missing : List ℕ → List Code → Bool
 missing xs cs = some_missing xs (names_in cs)
@@ -30,8 +30,8 @@ loop-c-preserved c =
           ap (λ (t : Bool). not t || missing xs (drop (i + 1) cs)) w.if-not-has.ensures
           ∙ sym (ap (λ (x : Code). missing xs (x ∷ drop (i + 1) cs)) w.in-Name.is)
           ∙ opened (missing xs) cs i c.loop-c.invariant Blank c.loop-c-test.true
-      | in-default w ↦
-          sym (ap (λ (ys : List ℕ). some_missing xs (ys ++ names_in (drop (i + 1) cs))) (quiet (λ n. []) (λ x. x ∷ []) (get_or cs i Blank) (λ n e. refl) (λ x e. absurd (w.in-default.not-Name x e))))
+      | in_default w ↦
+          sym (ap (λ (ys : List ℕ). some_missing xs (ys ++ names_in (drop (i + 1) cs))) (quiet (λ n. []) (λ x. x ∷ []) (get_or cs i Blank) (λ n e. refl) (λ x e. absurd (w.in_default.not-Name x e))))
           ∙ opened (missing xs) cs i c.loop-c.invariant Blank c.loop-c-test.true
     ]
 

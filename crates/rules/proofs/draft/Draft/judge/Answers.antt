@@ -9,10 +9,10 @@ use Rattle.rules.proofs.draft.Draft.judge.Goals.{then-repeats-via-then-repeats, 
 right : (x : ℕ) → 1 ≤ x → x ≤ 999 → true ≡ (leb 1 x && leb x 999)
 right x h k = sym (and_from (leb 1 x) (leb x 999) (le-leb 1 x h) (le-leb x 999 k))
 
-pub returns-then-has-large : goal.returns-then-has-large
-returns-then-has-large c =
+pub returns-then-has_large : goal.returns-then-has_large
+returns-then-has_large c =
     judged c.args.self.now c.filled-code.ensures refl refl
-    (right c.args.self.now.head.printed (omega arith) (omega arith)) c.if-has-large.ensures refl refl refl
+    (right c.args.self.now.head.printed (omega arith) (omega arith)) c.if-has_large.ensures refl refl refl
 
 pub returns-then-repeats : goal.returns-then-repeats
 returns-then-repeats c =
@@ -23,19 +23,19 @@ returns-then-repeats c =
       | then-repeats-via-else-repeats+then-misses w ↦ λ i. w.if-repeats.ensures i || w.if-misses.ensures i
     ] in
     judged c.args.self.now c.filled-code.ensures (c.names-names.ensures ∙ c.of-given.ensures) refl
-    (right c.args.self.now.head.printed (omega arith) (omega arith)) c.if-has-large.ensures named refl refl
+    (right c.args.self.now.head.printed (omega arith) (omega arith)) c.if-has_large.ensures named refl refl
 
 pub returns-then-not-nests : goal.returns-then-not-nests
 returns-then-not-nests c =
     judged c.args.self.now c.filled-code.ensures (c.names-names.ensures ∙ c.of-given.ensures) c.filled-pieces.ensures
-    (right c.args.self.now.head.printed (omega arith) (omega arith)) c.if-has-large.ensures (λ i. c.if-repeats.ensures i || c.if-misses.ensures i) c.if-not-nests.ensures refl
+    (right c.args.self.now.head.printed (omega arith) (omega arith)) c.if-has_large.ensures (λ i. c.if-repeats.ensures i || c.if-misses.ensures i) c.if-not-nests.ensures refl
 
 pub returns-then-pieces-gt-MOST : goal.returns-then-pieces-gt-MOST
 returns-then-pieces-gt-MOST c =
     judged c.args.self.now c.filled-code.ensures (c.names-names.ensures ∙ c.of-given.ensures) c.filled-pieces.ensures
-    (right c.args.self.now.head.printed (omega arith) (omega arith)) c.if-has-large.ensures (λ i. c.if-repeats.ensures i || c.if-misses.ensures i) c.if-not-nests.ensures (sym (lt-ltb 24 _ c.if-pieces-gt-MOST.true))
+    (right c.args.self.now.head.printed (omega arith) (omega arith)) c.if-has_large.ensures (λ i. c.if-repeats.ensures i || c.if-misses.ensures i) c.if-not-nests.ensures (sym (lt-ltb 24 _ c.if-pieces-gt-MOST.true))
 
 pub returns : goal.returns
 returns c =
     judged c.args.self.now c.filled-code.ensures (c.names-names.ensures ∙ c.of-given.ensures) c.filled-pieces.ensures
-    (right c.args.self.now.head.printed (omega arith) (omega arith)) c.if-has-large.ensures (λ i. c.if-repeats.ensures i || c.if-misses.ensures i) c.if-not-nests.ensures (sym (le-ltb 24 _ c.if-pieces-gt-MOST.false))
+    (right c.args.self.now.head.printed (omega arith) (omega arith)) c.if-has_large.ensures (λ i. c.if-repeats.ensures i || c.if-misses.ensures i) c.if-not-nests.ensures (sym (le-ltb 24 _ c.if-pieces-gt-MOST.false))

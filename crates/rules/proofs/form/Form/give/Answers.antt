@@ -13,5 +13,5 @@ returns c x =
     let g = env_of c.args.names.now in
     let a = and_parts _ _ (and_parts _ _ f.ok).1 in
     let b = and_parts _ _ a.1 in
-    all_given f.count m.count f.a f.b f.c (to_z w32 (of_z w32 m.a)) (to_z w32 (of_z w32 m.b)) (to_z w32 (of_z w32 m.c)) g (env_of c.bind-if.new.names) (env_of c.bind-if-2.new.names) (env_of c.bind-if-3.new.names) a.0 b.0 b.1 c.bind-if.ensures c.bind-if-2.ensures c.bind-if-3.ensures x
+    all_given f.count m.count f.a f.b f.c (to_z w32 (of_z w32 m.a)) (to_z w32 (of_z w32 m.b)) (to_z w32 (of_z w32 m.c)) g (env_of c.bind_if.new.names) (env_of c.bind_if-2.new.names) (env_of c.bind_if-3.new.names) a.0 b.0 b.1 c.bind_if.ensures c.bind_if-2.ensures c.bind_if-3.ensures x
     ∙ (λ i. given (take f.count (f.a ∷ f.b ∷ f.c ∷ [])) (take m.count (a_exact m i ∷ b_exact m i ∷ c_exact m i ∷ [])) g x)

@@ -6,11 +6,11 @@ use Rattle.rules.specs.Picked.{held}
 use Rattle.rules.proofs.Collecting.{more_by, few_of_form, few_of_side}
 use Rattle.rules.proofs.given.Given.of.Goals as goal
 
-pub add-side-requires-2 : goal.add-side-requires-2
-add-side-requires-2 c =
+pub add_side-requires-2 : goal.add_side-requires-2
+add_side-requires-2 c =
     let h = c.args.head.now in
     more_by (names_of (option_map form_of h.before)) (form_of h.predecessor).names (held c.add.new.self) 3 3
-    (c.add.ensures ∙ ap (λ (xs : List ℕ). xs ++ (form_of h.predecessor).names) (c.add-side.ensures ∙ ap (λ (xs : List ℕ). xs ++ names_of (option_map form_of h.before)) c.new-given.ensures))
+    (c.add.ensures ∙ ap (λ (xs : List ℕ). xs ++ (form_of h.predecessor).names) (c.add_side.ensures ∙ ap (λ (xs : List ℕ). xs ++ names_of (option_map form_of h.before)) c.new-given.ensures))
     (few_of_side h.before) (few_of_form h.predecessor)
 
 pub returns : goal.returns
@@ -19,6 +19,6 @@ returns c =
     let left = names_of (option_map form_of h.before) in
     let own = (form_of h.predecessor).names in
     let right = names_of (option_map form_of h.behind) in
-    c.add-side-2.ensures
-    ∙ ap (λ (xs : List ℕ). xs ++ right) (c.add.ensures ∙ ap (λ (xs : List ℕ). xs ++ own) (c.add-side.ensures ∙ ap (λ (xs : List ℕ). xs ++ left) c.new-given.ensures))
+    c.add_side-2.ensures
+    ∙ ap (λ (xs : List ℕ). xs ++ right) (c.add.ensures ∙ ap (λ (xs : List ℕ). xs ++ own) (c.add_side.ensures ∙ ap (λ (xs : List ℕ). xs ++ left) c.new-given.ensures))
     ∙ append_assoc left own right

@@ -6,4 +6,4 @@ pub returns-then-counts : goal.returns-then-counts
 returns-then-counts c =
     let s = c.args.self.now in
     take_more_set s.row s.len c.args.name (omega (arith, length-take s.len s.row))
-    ∙ sym (ap (λ (t : Bool). take s.len s.row ++ cond t (c.args.name ∷ []) []) c.if_counts.true)
+    ∙ sym (ap (λ (t : Bool). take s.len s.row ++ cond t (c.args.name ∷ []) []) c.if-counts.true)
