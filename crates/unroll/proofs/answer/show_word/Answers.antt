@@ -13,7 +13,7 @@ loop-module-preserved g c = λ p.
     let so_far = c.loop-module.invariant p in
     let s = symbol_of c.in-Next.module in
     let drew = c.in-Next.ensures in
-    let wrote = c.write.ensures.writes so_far.1.plain (ap is_ok c.in-ok-write.was) in (
+    let wrote = c.write.ensures.writes so_far.1.plain (ap is_ok c.in_ok-write-in-Next.was) in (
       so_far.0 ++ written s,
       has_written_append took _ _ _ _ _ so_far.1 wrote,
       moves (means c.loop-module.source).told (means c.draw.new.self).told s so_far.0 _ drew.0 drew.1 so_far.2,
