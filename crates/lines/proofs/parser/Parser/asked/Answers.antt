@@ -17,5 +17,5 @@ returns-in-Asks c =
     read_asked c.guard.result ts us cs ds (headed ts Asks (sym c.sign.ensures ∙ c.in-Asks.is) refl)
     (subst (λ x. Read (λ _. Took guard x us cs ds × Stops guard (first_sign us)) (Lost guard x) c.guard.result) c.skip.ensures.whole c.guard.ensures)
 
-pub returns-in-default : goal.returns-in-default
-returns-in-default c = unasked (left c.args.self.now) (laid c.args.self.now) (unlike Asks _ (omega arith) (λ e. c.in-default.not-Asks (c.sign.ensures ∙ e)))
+pub returns-in_default : goal.returns-in_default
+returns-in_default c = unasked (left c.args.self.now) (laid c.args.self.now) (unlike Asks _ (omega arith) (λ e. c.in_default.not-Asks (c.sign.ensures ∙ e)))

@@ -7,18 +7,18 @@ use Rattle.lines.proofs.Steps.{refused}
 use Rattle.lines.proofs.Growing.{no_piece, read_grown}
 use Rattle.lines.proofs.parser.Parser.grown.Goals as goal
 
-pub returns-in-err-letter : goal.returns-in-err-letter
-returns-in-err-letter c =
-    rw (refused c.from-residual.result c.from-residual.ensures.1 c.in-err-letter.ensures.0)
-    (refl, no_piece (left c.args.self.now) c.requires.some c.requires.plain c.in-err-letter.ensures.1)
+pub returns-in_err-letter : goal.returns-in_err-letter
+returns-in_err-letter c =
+    rw (refused c.from_residual.result c.from_residual.ensures.1 c.in_err-letter.ensures.0)
+    (refl, no_piece (left c.args.self.now) c.requires.some c.requires.plain c.in_err-letter.ensures.1)
 
-pub overflow-sub-places : goal.overflow-sub-places
-overflow-sub-places c =
-    let a = c.in-ok-count.ensures in
+pub overflow_sub-places : goal.overflow_sub-places
+overflow_sub-places c =
+    let a = c.in_ok-count.ensures in
     let k = ap length a.coded ∙ length-append (laid c.args.self.now) (codes_of (map sense a.trees)) in
     omega arith
 
 pub returns : goal.returns
 returns c =
-    read_grown _ (left c.args.self.now) (unread c.letter.new.reader) (left c.arguments.new.self) (laid c.args.self.now) (laid c.arguments.new.self) c.in-ok-letter.ensures c.in-ok-count.ensures
+    read_grown _ (left c.args.self.now) (unread c.letter.new.reader) (left c.arguments.new.self) (laid c.args.self.now) (laid c.arguments.new.self) c.in_ok-letter.ensures c.in_ok-count.ensures
     (λ i. c.len.ensures i - c.len-before.ensures i)

@@ -7,12 +7,12 @@ use Rattle.lines.proofs.Signs.{unlike, headed}
 use Rattle.lines.proofs.Guarding.{no_arrow, read_arrow}
 use Rattle.lines.proofs.parser.Parser.guarded.Goals as goal
 
-pub returns-in-default : goal.returns-in-default
-returns-in-default c =
-    (refl, no_arrow _ (left c.asked.new.self) _ (laid c.asked.new.self) c.in-ok-asked.ensures (unlike Arrow _ (omega arith) (λ e. c.in-default.not-Arrow (c.sign.ensures ∙ e))))
+pub returns-in_default : goal.returns-in_default
+returns-in_default c =
+    (refl, no_arrow _ (left c.asked.new.self) _ (laid c.asked.new.self) c.in_ok-asked.ensures (unlike Arrow _ (omega arith) (λ e. c.in_default.not-Arrow (c.sign.ensures ∙ e))))
 
 pub returns : goal.returns
 returns c =
     let us = left c.asked.new.self in
-    read_arrow c.len.result (left c.args.self.now) us (unread c.skip.new.self) (laid c.args.self.now) (laid c.asked.new.self) c.in-ok-asked.ensures
+    read_arrow c.len.result (left c.args.self.now) us (unread c.skip.new.self) (laid c.args.self.now) (laid c.asked.new.self) c.in_ok-asked.ensures
     (headed us Arrow (sym c.sign.ensures ∙ c.in-Arrow.is) refl ∙ ap (λ l. sign Arrow ∷ l) (sym c.skip.ensures.whole)) c.len.ensures

@@ -1,4 +1,4 @@
-use Rattle.std.proofs.Common.{◌≡◌, length, sym, refl, ap, ◌∙◌, arith}
+use Rattle.std.proofs.Common.{arith}
 use Rattle.tokens.specs.Readers.{unread}
 use Rattle.rules.specs.Records.{pieces_in}
 use Rattle.lines.specs.Parsing.{left, laid}
@@ -6,23 +6,25 @@ use Rattle.lines.proofs.Laying.{room_head, room_guard, rule_read, rule_laid, rul
 use Rattle.lines.proofs.parser.Parser.rule.Goals as goal
 
 pub guarded-requires : goal.guarded-requires
-guarded-requires c = let r = room_head _ _ _ c.in-ok-head.ensures in omega arith
+guarded-requires c = let r = room_head _ _ _ c.in_ok-head.ensures in omega arith
 
 pub successor-requires : goal.successor-requires
 successor-requires c =
-    let r = room_head _ _ _ c.in-ok-head.ensures in
-    let s = room_guard _ _ _ _ _ c.in-ok-guard.ensures in
+    let r = room_head _ _ _ c.in_ok-head.ensures in
+    let s = room_guard _ _ _ _ _ c.in_ok-guard.ensures in
     omega arith
 
-pub invariant-of-result : goal.invariant-of-result
-invariant-of-result c =
-    let r = room_head _ _ _ c.in-ok-head.ensures in
-    let s = room_guard _ _ _ _ _ c.in-ok-guard.ensures in
-    let n = c.in-ok-guard.ensures.size in (
-      ∣ rule_laid c.in-ok-head.head c.in-ok-guard.guard (pieces_in c.in-ok-pieces.pieces) (left c.args.self.now) (unread c.head.new.reader) (left c.guarded.new.self) (laid c.args.self.now) (laid c.guarded.new.self) (laid c.successor.new.self) c.in-ok-head.ensures c.in-ok-guard.ensures c.in-ok-pieces.ensures c.requires.none ∣₁,
-      (omega arith, (rule_within c.in-ok-head.head c.in-ok-guard.guard (pieces_in c.in-ok-pieces.pieces) (left c.args.self.now) (unread c.head.new.reader) (left c.guarded.new.self) (laid c.args.self.now) (laid c.guarded.new.self) (laid c.successor.new.self) c.in-ok-head.ensures c.in-ok-guard.ensures c.in-ok-pieces.ensures c.requires.none, tt)),
-    )
+pub invariant_of-result : goal.invariant_of-result
+invariant_of-result c =
+    let r = room_head _ _ _ c.in_ok-head.ensures in
+    let s = room_guard _ _ _ _ _ c.in_ok-guard.ensures in
+    let n = c.in_ok-guard.ensures.size in
+    record {
+      whole = ∣ rule_laid c.in_ok-head.head c.in_ok-guard.guard (pieces_in c.in_ok-pieces.pieces) (left c.args.self.now) (unread c.head.new.reader) (left c.guarded.new.self) (laid c.args.self.now) (laid c.guarded.new.self) (laid c.successor.new.self) c.in_ok-head.ensures c.in_ok-guard.ensures c.in_ok-pieces.ensures c.requires.none ∣₁;
+      few = omega arith;
+      within = rule_within c.in_ok-head.head c.in_ok-guard.guard (pieces_in c.in_ok-pieces.pieces) (left c.args.self.now) (unread c.head.new.reader) (left c.guarded.new.self) (laid c.args.self.now) (laid c.guarded.new.self) (laid c.successor.new.self) c.in_ok-head.ensures c.in_ok-guard.ensures c.in_ok-pieces.ensures c.requires.none;
+    }
 
 pub returns : goal.returns
 returns c =
-    rule_read c.in-ok-head.head c.in-ok-guard.guard (pieces_in c.in-ok-pieces.pieces) (left c.args.self.now) (unread c.head.new.reader) (left c.guarded.new.self) (laid c.args.self.now) (laid c.guarded.new.self) (laid c.successor.new.self) c.in-ok-head.ensures c.in-ok-guard.ensures c.in-ok-pieces.ensures c.requires.none
+    rule_read c.in_ok-head.head c.in_ok-guard.guard (pieces_in c.in_ok-pieces.pieces) (left c.args.self.now) (unread c.head.new.reader) (left c.guarded.new.self) (laid c.args.self.now) (laid c.guarded.new.self) (laid c.successor.new.self) c.in_ok-head.ensures c.in_ok-guard.ensures c.in_ok-pieces.ensures c.requires.none

@@ -6,12 +6,12 @@ use Rattle.lines.proofs.Signs.{unlike, headed}
 use Rattle.lines.proofs.Forming.{some_behind, none_behind}
 use Rattle.lines.proofs.parser.forms.behind.Goals as goal
 
-pub returns-in-ok-right : goal.returns-in-ok-right
-returns-in-ok-right c =
+pub returns-in_ok-right-in-More : goal.returns-in_ok-right-in-More
+returns-in_ok-right-in-More c =
     let ts = unread c.args.reader.now in
     let us = unread c.form.new.reader in
-    let f = c.in-ok-right.right in
-    some_behind f ts us (headed ts More (sym c.sign.ensures ∙ c.in-More.is) refl) (subst (λ x. TookForm x us f) c.skip.ensures.whole c.in-ok-right.ensures)
+    let f = c.in_ok-right-in-More.right in
+    some_behind f ts us (headed ts More (sym c.sign.ensures ∙ c.in-More.is) refl) (subst (λ x. TookForm x us f) c.skip.ensures.whole c.in_ok-right-in-More.ensures)
 
-pub returns-in-default : goal.returns-in-default
-returns-in-default c = none_behind (unread c.args.reader.now) (unlike More _ (omega arith) (λ e. c.in-default.not-More (c.sign.ensures ∙ e)))
+pub returns-in_default : goal.returns-in_default
+returns-in_default c = none_behind (unread c.args.reader.now) (unlike More _ (omega arith) (λ e. c.in_default.not-More (c.sign.ensures ∙ e)))

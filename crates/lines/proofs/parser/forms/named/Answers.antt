@@ -11,11 +11,11 @@ third letter a b c n h k =
     let q = and_parts (is_name a) (is_name b && eqb c 0) p.1 in
     and_from (is_letter letter && true) (is_name a && (is_name b && is_name n)) p.0 (and_from (is_name a) (is_name b && is_name n) q.0 (and_from (is_name b) (is_name n) (and_parts (is_name b) (eqb c 0) q.1).0 k))
 
-pub invariant-of-result-2 : goal.invariant-of-result-2
-invariant-of-result-2 c =
+pub invariant_of-result-2 : goal.invariant_of-result-2
+invariant_of-result-2 c =
     let f = c.args.form in
     let two : f.count ≡ 2 = omega arith in
-    (third f.letter f.a f.b f.c c.args.name (subst (λ n. sound f.letter n f.a f.b f.c ≡ true) two f.ok) c.requires.name, tt)
+    record { ok = third f.letter f.a f.b f.c c.args.name (subst (λ n. sound f.letter n f.a f.b f.c ≡ true) two f.ok) c.requires.name }
 
 pub returns : goal.returns
 returns c =

@@ -6,14 +6,14 @@ use Rattle.lines.proofs.Signs.{unlike, headed}
 use Rattle.lines.proofs.Forming.{no_number, long_number, read_printed, no_colon}
 use Rattle.lines.proofs.parser.forms.printed.Goals as goal
 
-pub returns-in-default : goal.returns-in-default
-returns-in-default c =
-    (refl, no_number c.next.result (unread c.args.reader.now) (ahead c.next.new.self) c.next.ensures.whole c.next.ensures.formed c.in-default.not-Number c.requires)
+pub returns-in_default : goal.returns-in_default
+returns-in_default c =
+    (refl, no_number c.next.result (unread c.args.reader.now) (ahead c.next.new.self) c.next.ensures.whole c.next.ensures.formed c.in_default.not-Number c.requires)
 
-pub returns-in-default-number : goal.returns-in-default-number
-returns-in-default-number c =
+pub returns-in_default-number : goal.returns-in_default-number
+returns-in_default-number c =
     let t = c.in-Number.ensures in
-    (refl, long_number c.in-Number.digits.now (unread c.args.reader.now) (unread c.next.new.self) t.whole c.in-default-number.ensures.value t.formed.0 t.formed.1)
+    (refl, long_number c.in-Number.digits.now (unread c.args.reader.now) (unread c.next.new.self) t.whole c.in_default-number.ensures.value t.formed.0 t.formed.1)
 
 pub returns-in-Colon : goal.returns-in-Colon
 returns-in-Colon c =
@@ -21,9 +21,9 @@ returns-in-Colon c =
     read_printed c.in-Number.digits.now c.in-Some.n (unread c.args.reader.now) us (unread c.skip.new.self) c.in-Number.ensures.whole c.in-Some.ensures.value
     (headed us Colon (sym c.sign.ensures ∙ c.in-Colon.is) refl ∙ ap (λ l. sign Colon ∷ l) (sym c.skip.ensures.whole))
 
-pub returns-in-default-sign : goal.returns-in-default-sign
-returns-in-default-sign c = (
+pub returns-in_default-sign : goal.returns-in_default-sign
+returns-in_default-sign c = (
   refl,
   no_colon c.in-Number.digits.now c.in-Some.n (unread c.args.reader.now) (unread c.next.new.self) c.in-Number.ensures.whole c.in-Some.ensures.value
-      (unlike Colon _ (omega arith) (λ e. c.in-default-sign.not-Colon (c.sign.ensures ∙ e))),
+      (unlike Colon _ (omega arith) (λ e. c.in_default-sign.not-Colon (c.sign.ensures ∙ e))),
 )

@@ -1,6 +1,6 @@
 use Rattle.std.proofs.Common.{◌≡◌, true, ◌∷◌, get_or, sym, refl, ap, ◌∙◌, subst}
 use Rattle.word.specs.Symbols.{is_letter}
-use Rattle.tokens.specs.Tokens.{sign, sign_of}
+use Rattle.tokens.specs.Tokens.{sign}
 use Rattle.tokens.specs.Readers.{unread}
 use Rattle.lines.specs.Grammar.{small}
 use Rattle.lines.proofs.Glyphs.{name_real, sign_real}
@@ -15,7 +15,7 @@ pub returns-in-Some : goal.returns-in-Some
 returns-in-Some c =
     let l = c.in-Some.ensures in
     let bs = c.in-Sign.part.now in
-    let e = ap sign (sym c.sign-of.ensures) ∙ l.spelt in
+    let e = ap sign (sym c.sign_of.ensures) ∙ l.spelt in
     record {
       glyph_is = l.glyph_is;
       spelt = c.in-Sign.ensures.whole ∙ ap (λ t. t ∷ unread c.next.new.self) e;
