@@ -4,7 +4,7 @@ use Rattle.rules.specs.declared.refusal.Refusal.{Refusal}
 use Rattle.rules.specs.declared.refusal.Refusal.TheVariants.{TooLong, NotByGrammar, PrintedNumber, NumberTooLarge, Names, Nesting, TooManyModules, NumberHeld, TooManyRules, TooMuchCode}
 use Rattle.rules.specs.Rules.{Rule, Entry, rule, ignores}
 use Rattle.rules.specs.Places.{numbers, names, expressions, each, given_names, places_of}
-use Rattle.rules.specs.Wrong.{some_over, some_twice, some_missing, nests, wrong}
+use Rattle.rules.specs.Wrong.{some_over, some_twice, some_missing, nests}
 use Rattle.rules.specs.Refusals.{refusal_number, answer_number}
 use Rattle.lines.specs.Reading.{Says, Unread}
 use Rattle.books.specs.Books.{Book, with_entry, holds_number, code_places, no_place, refused}

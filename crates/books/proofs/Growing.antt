@@ -1,5 +1,5 @@
 -- A rule tried and grown.
-use Rattle.std.proofs.Common.{◌≡◌, ℕ, zero, suc, ◌+◌, ◌-◌, ◌<◌, ◌≤◌, min, Bool, true, false, cond, ◌&&◌, ltb, List, [], ◌∷◌, ◌++◌, map, length, take, drop, ℤ, pos, Ok, Err, Option, Result, sym, refl, ap, ◌∙◌, subst, append_assoc, arith, length-take, w32, to_z, of_z}
+use Rattle.std.proofs.Common.{◌≡◌, ℕ, zero, suc, ◌+◌, ◌-◌, ◌<◌, ◌≤◌, min, true, false, ◌&&◌, ltb, List, [], ◌∷◌, ◌++◌, map, length, take, drop, ℤ, pos, Ok, Err, Option, Result, sym, refl, ap, ◌∙◌, append_assoc, arith, length-take, w32, to_z, of_z}
 use mathlib.Core.Path.{fun_ext}
 use native.Mathlib.Nat.{sub-zero}
 use Rattle.std.proofs.lemmas.List.{take_all, drop-drop, map_push, length_push}
@@ -11,13 +11,13 @@ use Rattle.word.specs.Records.{symbol_of}
 use Rattle.word.proofs.Sound.{exact}
 use Rattle.expr.specs.declared.code.Code.{Code}
 use Rattle.expr.specs.declared.computed.Cause.{Cause}
-use Rattle.expr.specs.Values.{Expr, Env, Arguments, made, spoilt, arguments}
+use Rattle.expr.specs.Values.{Expr, Env, Arguments, made, arguments}
 use Rattle.expr.specs.Codes.{decoded, latest}
-use Rattle.expr.specs.Machine.{cause_number, arguments_of, Spare}
+use Rattle.expr.specs.Machine.{cause_number, arguments_of}
 use Rattle.expr.proofs.Ranges.{arguments_in_range}
 use Rattle.rules.specs.declared.piece.Piece.{Piece}
 use Rattle.rules.specs.Rules.{Form, given, given_beside}
-use Rattle.rules.specs.Records.{pieces_from, places_in}
+use Rattle.rules.specs.Records.{pieces_from}
 use Rattle.books.specs.Outcomes.{Outcome, itself, grown, fault, with_first, successor}
 use Rattle.books.specs.Trying.{behind, Grows}
 

@@ -1,7 +1,7 @@
 -- The law of loading.
 use Rattle.std.proofs.Common.{◌≡◌, ℕ, zero, suc, ◌+◌, Bool, true, false, cond, ◌||◌, eqb, ltb, leb, ◌⊎◌, List, [], ◌∷◌, length, sym, refl, ap, ◌∙◌, subst, inl, inr, arith}
 use mathlib.Core.Path.{fun_ext}
-use Rattle.std.proofs.lemmas.Bool.{cond-true, cond-false, both_ways, ne_eqb, or_cases, cases_eq}
+use Rattle.std.proofs.lemmas.Bool.{cond-false, both_ways, ne_eqb, or_cases, cases_eq}
 use Rattle.word.specs.Symbols.{among}
 use Rattle.rules.specs.Rules.{Rule, Entry, rule, ignores}
 use Rattle.rules.specs.Places.{places_of}
@@ -10,7 +10,7 @@ use Rattle.rules.proofs.Judging.{wrong_none, wrong_some}
 use Rattle.lines.specs.Reading.{Says}
 use Rattle.lines.proofs.Recovered.{one_meaning}
 use Rattle.books.specs.Books.{Book, empty, with_rule, with_entry, holds_number, code_places, no_place, refused, loaded}
-use Rattle.books.specs.Loading.{Taken, TurnedDown, Loads, Offer, Run, taken, Said, Among, Reordered, none, keep, swap, then, Law}
+use Rattle.books.specs.Loading.{Loads, Offer, Run, taken, Said, Among, Reordered, none, keep, swap, then, Law}
 use Rattle.books.proofs.Ordering.{commute}
 use Rattle.books.proofs.Placing.{past}
 use Rattle.books.proofs.Sorting.{in_new, in_old, in_only, apart}

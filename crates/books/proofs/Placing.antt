@@ -1,7 +1,7 @@
 -- A rule put into a book.
-use Rattle.std.proofs.Common.{◌≡◌, ℕ, zero, suc, ◌+◌, ◌<◌, ◌≤◌, Bool, true, false, cond, not, ◌&&◌, ◌||◌, eqb, ltb, leb, List, [], ◌∷◌, ◌++◌, map, length, take, drop, sym, refl, ap, ◌∙◌, arith, length-append, ltb-false, le-ltb, lt-ltb, le-leb, leb-true}
+use Rattle.std.proofs.Common.{◌≡◌, ℕ, zero, suc, ◌+◌, ◌<◌, ◌≤◌, Bool, true, false, cond, not, ◌&&◌, ◌||◌, eqb, ltb, leb, List, [], ◌∷◌, ◌++◌, length, take, drop, sym, refl, ap, ◌∙◌, arith, length-append, ltb-false, le-ltb, lt-ltb, le-leb, leb-true}
 use borrow.Author.Tests.{lt-leb}
-use Rattle.std.proofs.lemmas.List.{length-drop, length-map, take_all, take-append-le, drop-append-le, drop_at}
+use Rattle.std.proofs.lemmas.List.{length-drop, take_all, take-append-le, drop-append-le, drop_at}
 use Rattle.std.proofs.lemmas.Bool.{and_parts, and_from}
 use Rattle.expr.specs.declared.code.Code.{Code}
 use Rattle.rules.specs.declared.draft.Draft.{Draft}
@@ -12,7 +12,7 @@ use Rattle.rules.specs.Places.{numbers, names, expressions, each, given_names, p
 use Rattle.rules.specs.Wrong.{some_over, some_twice, some_missing, nests, wrong}
 use Rattle.rules.proofs.Counting.{draft_places}
 use Rattle.books.specs.declared.rule.Rule.{Rule as StoredRule}
-use Rattle.books.specs.Books.{Book, precedes, with_rule, holds_number, code_places, no_place}
+use Rattle.books.specs.Books.{Book, with_rule, holds_number, code_places, no_place}
 use Rattle.books.specs.Stored.{rule_in, rules_in}
 use Rattle.books.specs.Making.{Made}
 use Rattle.books.specs.Order.{head_precedes, spot, numbered}

@@ -1,5 +1,5 @@
 -- Rules tried one after the other.
-use Rattle.std.proofs.Common.{◌≡◌, ℕ, zero, suc, ◌+◌, ◌<◌, ◌≤◌, Bool, true, false, cond, ◌&&◌, leb, List, [], ◌∷◌, length, take, drop, Some, None, Option, sym, refl, ap, ◌∙◌, subst, arith, length-take, leb-true}
+use Rattle.std.proofs.Common.{◌≡◌, ℕ, zero, suc, ◌+◌, ◌≤◌, Bool, true, false, cond, ◌&&◌, leb, List, [], ◌∷◌, length, take, drop, Some, Option, sym, ap, ◌∙◌, subst, arith, leb-true}
 use mathlib.Core.Path.{fun_ext}
 use Rattle.std.proofs.lemmas.List.{length-drop, length-take-le}
 use Rattle.std.proofs.lemmas.Bool.{and_parts, and_from}
@@ -9,7 +9,7 @@ use Rattle.expr.specs.Values.{Env, Verdict, passes, fails, faults, guard}
 use Rattle.rules.specs.Rules.{Rule, names_at}
 use Rattle.books.specs.declared.rule.Rule.{Rule as StoredRule}
 use Rattle.books.specs.Winners.{not_false, candidate, says, decides, winner}
-use Rattle.books.specs.Outcomes.{Outcome, itself, fault, successor, by_verdict, by_rule, becomes}
+use Rattle.books.specs.Outcomes.{Outcome, fault, successor, by_verdict, by_rule, becomes}
 use Rattle.books.specs.Kept.{within}
 
 -- the code of a rule has as many places as the rule says

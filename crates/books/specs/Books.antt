@@ -1,5 +1,5 @@
 -- Books: rules in the order in which they are tried, and ignored letters. A book does not know in which order its lines came.
-use Rattle.std.specs.Prelude.{◌≡◌, ℕ, ◌+◌, Bool, true, false, cond, ◌&&◌, ◌||◌, List, [], ◌∷◌, length, Some, None, Option, ◌==◌, nat_le, nat_lt}
+use Rattle.std.specs.Prelude.{ℕ, ◌+◌, Bool, false, cond, ◌&&◌, ◌||◌, List, [], ◌∷◌, length, Some, None, Option, ◌==◌, nat_le, nat_lt}
 use Rattle.word.specs.Symbols.{among}
 use Rattle.rules.specs.Rules.{Form, Rule, Entry, rule, ignores}
 use Rattle.rules.specs.Places.{places_of}

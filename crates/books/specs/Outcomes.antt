@@ -1,5 +1,5 @@
 -- What becomes of a module between its neighbours.
-use Rattle.std.specs.Prelude.{ℕ, List, [], ◌∷◌, ℤ, Some, None, Option}
+use Rattle.std.specs.Prelude.{ℕ, List, [], ◌∷◌, Some, None, Option}
 use Rattle.word.specs.Symbols.{Symbol}
 use Rattle.expr.specs.Values.{Env, Verdict, passes, fails, faults, Arguments, made, spoilt, arguments}
 use Rattle.rules.specs.Rules.{Piece, Rule, names_at}

@@ -1,4 +1,4 @@
-use Rattle.std.proofs.Common.{◌≡◌, ◌+◌, List, length, drop, sym, ap, ◌∙◌, arith}
+use Rattle.std.proofs.Common.{◌+◌, List, length, drop, sym, ap, ◌∙◌, arith}
 use Rattle.std.proofs.lemmas.List.{drop_all}
 use Rattle.std.specs.Option.{option_map}
 use Rattle.word.specs.Records.{symbol_of}
@@ -9,8 +9,8 @@ use Rattle.books.proofs.Rows.{item_in}
 use Rattle.books.proofs.Trying.{within_at, decided, passed_over}
 use Rattle.books.proofs.contents.Contents.becomes.Goals as goal
 
-pub try-at-requires : goal.try-at-requires
-try-at-requires c =
+pub try_at-requires : goal.try_at-requires
+try_at-requires c =
     let s = c.args.self.now in
     let i = c.loop-rule.rule-index in
     let r = c.rule-item.result in
@@ -43,7 +43,7 @@ loop-rule-preserved c =
     let m = symbol_of c.args.symbol in
     let n = option_map symbol_of c.args.right in
     let item = item_in c.filled-rule-items.result.now rs c.filled-rule-items.ensures i r c.loop-rule-test.true c.rule-item.is in
-    sym (passed_over l m n (rule_in cs r) (rules_in cs (drop (i + 1) rs)) c.in-default.ensures)
+    sym (passed_over l m n (rule_in cs r) (rules_in cs (drop (i + 1) rs)) c.in_default.ensures)
     ∙ ap (λ (q : List StoredRule). becomes l m n (rules_in cs q)) (sym item)
     ∙ c.loop-rule.invariant
 

@@ -1,17 +1,16 @@
-use Rattle.std.proofs.Common.{◌≡◌, ℕ, ◌+◌, ◌<◌, ◌≤◌, Bool, true, false, List, ◌∷◌, ◌++◌, length, take, drop, sym, refl, ap, ◌∙◌, subst, arith}
+use Rattle.std.proofs.Common.{◌≡◌, ℕ, Bool, true, false, List, ◌++◌, length, drop, sym, refl, ap, ◌∙◌, arith}
 use lib.ListN.{length-map}
 use Rattle.expr.specs.declared.code.Code.{Code}
 use Rattle.rules.specs.Rules.{Rule}
-use Rattle.rules.specs.Places.{places_of}
 use Rattle.rules.specs.Records.{code_in, pieces_in}
 use Rattle.rules.specs.Drafts.{rule_of}
 use Rattle.rules.proofs.Counting.{draft_places}
 use Rattle.rules.proofs.Depths.{length_pieces, nests_bare}
 use Rattle.books.specs.declared.rule.Rule.{Rule as StoredRule}
-use Rattle.books.specs.Books.{holds_number, code_places}
+use Rattle.books.specs.Books.{holds_number}
 use Rattle.books.specs.declared.contents.Contents.{Contents}
 use Rattle.books.specs.Contents.{book_in}
-use Rattle.books.specs.Stored.{code_held, listed, rule_in, rules_in, ignored_in}
+use Rattle.books.specs.Stored.{code_held, listed, rule_in, ignored_in}
 use Rattle.books.specs.Order.{numbered, spot}
 use Rattle.books.proofs.Placing.{few_pieces, is_held, is_full, is_spent, is_free, same_number, spot_low, put_rules, put_inside, put_ordered, put_spent}
 use Rattle.books.proofs.contents.Contents.place.Goals as goal
@@ -24,27 +23,27 @@ unheld s n rs e b h = h ∙ ap (numbered n) e ∙ same_number (code_held s.code)
 many : (s : Contents) (rs : List StoredRule) → rs ≡ listed s.rules → length (book_in s).rules ≡ length rs
 many s rs e = length-map (listed s.rules) (rule_in (code_held s.code)) ∙ ap length (sym e)
 
-pub returns-then-is-numbered : goal.returns-then-is-numbered
-returns-then-is-numbered c =
+pub returns-then-is_numbered : goal.returns-then-is_numbered
+returns-then-is_numbered c =
     let s = c.args.self.now in
     let d = c.args.draft.now in
-    record { answer = is_held (book_in s) (rule_of d) (unheld s d.head.printed c.filled-rules.result.now c.filled-rules.ensures true c.if-is-numbered.ensures); after = refl }
+    record { answer = is_held (book_in s) (rule_of d) (unheld s d.head.printed c.filled-rules.result.now c.filled-rules.ensures true c.if-is_numbered.ensures); after = refl }
 
-pub returns-then-rules-ge-MOST-RULES : goal.returns-then-rules-ge-MOST-RULES
-returns-then-rules-ge-MOST-RULES c =
+pub returns-then-rules-ge-MOST_RULES : goal.returns-then-rules-ge-MOST_RULES
+returns-then-rules-ge-MOST_RULES c =
     let s = c.args.self.now in
     let d = c.args.draft.now in
     let rs = c.filled-rules.result.now in
-    record { answer = is_full (book_in s) (rule_of d) (unheld s d.head.printed rs c.filled-rules.ensures false c.if-is-numbered.ensures) (omega (arith, many s rs c.filled-rules.ensures)); after = refl }
+    record { answer = is_full (book_in s) (rule_of d) (unheld s d.head.printed rs c.filled-rules.ensures false c.if-is_numbered.ensures) (omega (arith, many s rs c.filled-rules.ensures)); after = refl }
 
-pub returns-then-start-len-gt-MOST-PLACES : goal.returns-then-start-len-gt-MOST-PLACES
-returns-then-start-len-gt-MOST-PLACES c =
+pub returns-then-start-len-gt-MOST_PLACES : goal.returns-then-start-len-gt-MOST_PLACES
+returns-then-start-len-gt-MOST_PLACES c =
     let s = c.args.self.now in
     let d = c.args.draft.now in
     let rs = c.filled-rules.result.now in
     record {
       answer =
-          is_spent (book_in s) (rule_of d) (unheld s d.head.printed rs c.filled-rules.ensures false c.if-is-numbered.ensures) (omega (arith, many s rs c.filled-rules.ensures))
+          is_spent (book_in s) (rule_of d) (unheld s d.head.printed rs c.filled-rules.ensures false c.if-is_numbered.ensures) (omega (arith, many s rs c.filled-rules.ensures))
           (omega (arith, s.spent, draft_places d, c.used-start.ensures, c.len.ensures));
       after = refl;
     }
@@ -66,24 +65,23 @@ insert-requires c =
       within = omega (arith, e, c.spot-at.ensures, spot_low c.args.draft.now.head c.filled-rules.result.now);
     }
 
-pub invariant-of-self : goal.invariant-of-self
-invariant-of-self c =
+pub invariant_of-self : goal.invariant_of-self
+invariant_of-self c =
     let s = c.args.self.now in
     let d = c.args.draft.now in
     let cs = code_held s.code in
     let rs = listed s.rules in
     let ds = code_held c.append.new.self in
     let qs = listed c.insert.new.self in
-    let r = c.new_rule.result in
+    let r = c.new-rule.result in
     let code : ds ≡ cs ++ code_in d.codes = c.append.ensures ∙ ap (λ (l : List Code). cs ++ l) c.filled.ensures in
     let here : c.spot-at.result ≡ spot d.head rs = c.spot-at.ensures ∙ ap (spot d.head) c.filled-rules.ensures in
-    let new : false ≡ numbered d.head.printed rs = c.if-is-numbered.ensures ∙ ap (numbered d.head.printed) c.filled-rules.ensures in (
-      put_inside cs ds d rs qs r c.spot-at.result c.used-start.result code c.insert.ensures here c.used-start.ensures c.new_rule.ensures s.inside,
-      (
-        put_ordered cs ds d rs qs r c.spot-at.result c.used-start.result code c.insert.ensures here c.used-start.ensures c.new_rule.ensures s.inside new s.ordered,
-        (put_spent cs ds d rs qs r c.spot-at.result c.used-start.result code c.insert.ensures here c.used-start.ensures c.new_rule.ensures s.inside s.spent, tt),
-      ),
-    )
+    let new : false ≡ numbered d.head.printed rs = c.if-is_numbered.ensures ∙ ap (numbered d.head.printed) c.filled-rules.ensures in
+    record {
+      inside = put_inside cs ds d rs qs r c.spot-at.result c.used-start.result code c.insert.ensures here c.used-start.ensures c.new-rule.ensures s.inside;
+      ordered = put_ordered cs ds d rs qs r c.spot-at.result c.used-start.result code c.insert.ensures here c.used-start.ensures c.new-rule.ensures s.inside new s.ordered;
+      spent = put_spent cs ds d rs qs r c.spot-at.result c.used-start.result code c.insert.ensures here c.used-start.ensures c.new-rule.ensures s.inside s.spent;
+    }
 
 pub returns : goal.returns
 returns c =
@@ -97,7 +95,7 @@ returns c =
     let here : c.spot-at.result ≡ spot d.head rs = c.spot-at.ensures ∙ ap (spot d.head) c.filled-rules.ensures in
     record {
       answer =
-          is_free (book_in s) (rule_of d) (unheld s d.head.printed c.filled-rules.result.now c.filled-rules.ensures false c.if-is-numbered.ensures) (omega (arith, many s c.filled-rules.result.now c.filled-rules.ensures))
+          is_free (book_in s) (rule_of d) (unheld s d.head.printed c.filled-rules.result.now c.filled-rules.ensures false c.if-is_numbered.ensures) (omega (arith, many s c.filled-rules.result.now c.filled-rules.ensures))
           (omega (arith, s.spent, draft_places d, c.used-start.ensures, c.len.ensures));
-      after = ap (λ (l : List Rule). record { rules = l; ignored = ignored_in s.ignored }) (put_rules cs ds d rs qs c.new_rule.result c.spot-at.result c.used-start.result code c.insert.ensures here c.used-start.ensures c.new_rule.ensures s.inside);
+      after = ap (λ (l : List Rule). record { rules = l; ignored = ignored_in s.ignored }) (put_rules cs ds d rs qs c.new-rule.result c.spot-at.result c.used-start.result code c.insert.ensures here c.used-start.ensures c.new-rule.ensures s.inside);
     }

@@ -1,4 +1,4 @@
-use Rattle.std.proofs.Common.{◌≡◌, map, take, sym, ap, ◌∙◌}
+use Rattle.std.proofs.Common.{map, take, sym, ap, ◌∙◌}
 use native.Mathlib.Nat.{sub-zero}
 use Rattle.std.proofs.lemmas.List.{take_rest}
 use Rattle.expr.specs.Machine.{env_of}
@@ -9,14 +9,15 @@ use Rattle.books.specs.Few.{symbols_in}
 use Rattle.books.proofs.Tidy.{grown_nests}
 use Rattle.books.proofs.rule.Rule.grow.Goals as goal
 
-pub invariant-of-result : goal.invariant-of-result
-invariant-of-result c =
+pub invariant_of-result : goal.invariant_of-result
+invariant_of-result c =
     let r = c.args.self.now in
     let n = grown_nests (env_of c.args.names.now) _ _ (symbols_in c.in-Ok.modules) (sym c.in-Ok.ensures) in
-    let own = sub-zero r.count in (
-      n.0 ∙ ap (λ k. nests 0 (map bare (take k r.pieces))) own ∙ r.nested,
-      (r.deep ∙ sym (n.1 ∙ ap (λ k. deepest 0 (map bare (take k r.pieces))) own), tt),
-    )
+    let own = sub-zero r.count in
+    record {
+      nested = n.0 ∙ ap (λ k. nests 0 (map bare (take k r.pieces))) own ∙ r.nested;
+      deep = r.deep ∙ sym (n.1 ∙ ap (λ k. deepest 0 (map bare (take k r.pieces))) own);
+    }
 
 pub returns-in-Ok : goal.returns-in-Ok
 returns-in-Ok c =

@@ -10,25 +10,18 @@ use Rattle.books.proofs.rule.Rule.new.Goals as goal
 exact : (ps : List Piece) → length ps ≤ 24 → min 255 (deepest 0 (map bare ps)) ≡ deepest 0 (map bare ps)
 exact ps h = omega (arith, not_deeper 0 (map bare ps), length-map ps bare)
 
-pub invariant-of-result : goal.invariant-of-result
-invariant-of-result c =
+pub invariant_of-result : goal.invariant_of-result
+invariant_of-result c =
     let d = c.args.draft.now in
     let ps = c.filled-filled.result.now in
     let same : ps ≡ pieces_in d.pieces = c.filled-filled.ensures in
     let n = ap length same in
-    let own : take (length ps) c.row-of.result ≡ pieces_in d.pieces = c.row-of.ensures.begins ∙ same in (
-      c.row-of.ensures.wide,
-      (
-        omega (arith, n, c.requires.few),
-        (
-          d.few,
-          (
-            omega (arith, d.within, ap places_in own, c.len.ensures),
-            (
-              ap (λ (qs : List Piece). nests 0 (map bare qs)) own ∙ c.requires.nested,
-              (c.deepest.ensures ∙ exact ps (omega (arith, n, c.requires.few)) ∙ ap (λ (qs : List Piece). deepest 0 (map bare qs)) (sym c.row-of.ensures.begins), tt),
-            ),
-          ),
-        ),
-      ),
-    )
+    let own : take (length ps) c.row_of.result ≡ pieces_in d.pieces = c.row_of.ensures.begins ∙ same in
+    record {
+      wide = c.row_of.ensures.wide;
+      short = omega (arith, n, c.requires.few);
+      few = d.few;
+      within = omega (arith, d.within, ap places_in own, c.len.ensures);
+      nested = ap (λ (qs : List Piece). nests 0 (map bare qs)) own ∙ c.requires.nested;
+      deep = c.deepest.ensures ∙ exact ps (omega (arith, n, c.requires.few)) ∙ ap (λ (qs : List Piece). deepest 0 (map bare qs)) (sym c.row_of.ensures.begins);
+    }

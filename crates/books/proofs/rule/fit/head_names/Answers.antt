@@ -10,5 +10,5 @@ returns c =
     let h = c.args.head.now in
     let s = symbol_of c.args.symbol in
     all_named (option_map form_of h.before) (option_map form_of h.behind) (option_map symbol_of c.args.left) (option_map symbol_of c.args.right) (form_of h.predecessor).names s.params
-    (env_of c.new-names.result) (env_of c.give-beside.new.names) (env_of c.give.new.names) (env_of c.give-beside-2.new.names)
-    c.new-names.ensures c.give-beside.ensures c.give.ensures c.give-beside-2.ensures
+    (env_of c.new-names.result) (env_of c.give_beside.new.names) (env_of c.give.new.names) (env_of c.give_beside-2.new.names)
+    c.new-names.ensures c.give_beside.ensures c.give.ensures c.give_beside-2.ensures

@@ -1,4 +1,4 @@
-use Rattle.std.proofs.Common.{◌≡◌, ℕ, ◌+◌, ◌-◌, ◌<◌, ◌≤◌, List, ◌∷◌, map, length, take, drop, sym, ap, ◌∙◌, append-nil, arith, length-take, rules}
+use Rattle.std.proofs.Common.{◌+◌, ◌-◌, ◌≤◌, List, map, length, drop, sym, ap, ◌∙◌, append-nil, arith, length-take, rules}
 use Rattle.std.proofs.lemmas.List.{drop_all}
 use Rattle.word.specs.Records.{symbol_of}
 use Rattle.expr.specs.Machine.{env_of}
@@ -11,14 +11,14 @@ use Rattle.books.proofs.Rows.{item_at}
 use Rattle.books.proofs.Growing.{one_spoilt, part_is, all_grown, pushed_map}
 use Rattle.books.proofs.rule.grow.grow_pieces.Goals as goal
 
-pub slice-bounds-grow-piece-end : goal.slice-bounds-grow-piece-end
-slice-bounds-grow-piece-end c =
+pub slice_bounds-grow_piece-end : goal.slice_bounds-grow_piece-end
+slice_bounds-grow_piece-end c =
     let e = ap places_in (item_at c.args.pieces.now c.loop-piece.piece-index c.piece-item.result c.loop-piece-test.true c.piece-item.is) in
     let h : c.loop-piece.at + c.piece-item.result.places ≤ length c.args.code.now = omega (arith, e, c.loop-piece.invariant.1) in
     search rules
 
-pub grow-piece-requires : goal.grow-piece-requires
-grow-piece-requires c =
+pub grow_piece-requires : goal.grow_piece-requires
+grow_piece-requires c =
     let at = c.loop-piece.at in
     let p = c.piece-item.result in
     omega (arith, length-take (at + p.places - at) (drop at c.args.code.now), p.few)

@@ -1,6 +1,6 @@
-use Rattle.std.proofs.Common.{◌≡◌, ℕ, zero, suc, ◌+◌, Bool, true, false, cond, drop, sym, ap, ◌∙◌, arith}
+use Rattle.std.proofs.Common.{◌≡◌, suc, ◌+◌, Bool, cond, drop, sym, ap, ◌∙◌, arith}
 use Rattle.std.proofs.lemmas.List.{at_drop_all}
-use Rattle.books.specs.Order.{spot, head_precedes}
+use Rattle.books.specs.Order.{spot}
 use Rattle.books.proofs.Rows.{item_at}
 use Rattle.books.proofs.rule.order.spot.Goals as goal
 
