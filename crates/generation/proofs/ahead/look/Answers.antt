@@ -19,7 +19,7 @@ returns-in-Closed g c =
     let x = symbol_of c.in-Next.symbol in
     let here = stood w v m n inv.0 at (Next c.in-Next.symbol) seen.stands in
     record {
-      kept = kept_on w v c.stands-at.new.window m n (means c.stands-at.new.below) inv.0 seen.kept;
+      kept = kept_on w v c.stands_at.new.window m n (means c.stands_at.new.below) inv.0 seen.kept;
       some = omega (arith, seen.longer.1);
       looks = inl (looked_at (closed_book c.args.book.now).ignored (flow w m).modules at c.loop-at.depth (omega arith) inv.3 (x ∷ _) here ∙ c.in-Closed.ensures (64 - at) _);
     }
@@ -37,7 +37,7 @@ returns-in-Neighbour g c =
     let x = symbol_of c.in-Next.symbol in
     let here = stood w v m n inv.0 at (Next c.in-Next.symbol) seen.stands in
     record {
-      kept = kept_on w v c.stands-at.new.window m n (means c.stands-at.new.below) inv.0 seen.kept;
+      kept = kept_on w v c.stands_at.new.window m n (means c.stands_at.new.below) inv.0 seen.kept;
       some = omega (arith, seen.longer.1);
       looks = looked_at (closed_book c.args.book.now).ignored (flow w m).modules at c.loop-at.depth (omega arith) inv.3 (x ∷ _) here ∙ c.in-Neighbour.ensures (64 - at) _;
     }
@@ -54,7 +54,7 @@ returns-in-Clean g c =
     let seen = c.in-Clean.ensures in
     let here = stood w v m n inv.0 at Clean seen.stands in
     record {
-      kept = kept_on w v c.stands-at.new.window m n (means c.stands-at.new.below) inv.0 seen.kept;
+      kept = kept_on w v c.stands_at.new.window m n (means c.stands_at.new.below) inv.0 seen.kept;
       some = omega (arith, seen.longer, inv.1);
       looks = inr (looked_at (closed_book c.args.book.now).ignored (flow w m).modules at c.loop-at.depth (omega arith) inv.3 [] here.0, here.1);
     }
@@ -71,7 +71,7 @@ returns-in-Broken g c =
     let seen = c.in-Broken.ensures in
     let here = stood w v m n inv.0 at (Broken c.in-Broken.fault) seen.stands in
     record {
-      kept = kept_on w v c.stands-at.new.window m n (means c.stands-at.new.below) inv.0 seen.kept;
+      kept = kept_on w v c.stands_at.new.window m n (means c.stands_at.new.below) inv.0 seen.kept;
       some = omega (arith, seen.longer, inv.1);
       looks = (looked_at (closed_book c.args.book.now).ignored (flow w m).modules at c.loop-at.depth (omega arith) inv.3 [] here.0, here.1);
     }
@@ -88,7 +88,7 @@ loop-at-preserved g c =
     let seen = c.in-Next.ensures in
     let on = c.in-On.ensures in
     let here = stood w v m n inv.0 at (Next c.in-Next.symbol) seen.stands in (
-      kept_on w v c.stands-at.new.window m n (means c.stands-at.new.below) inv.0 seen.kept,
+      kept_on w v c.stands_at.new.window m n (means c.stands_at.new.below) inv.0 seen.kept,
       omega (arith, seen.longer.1),
       omega (arith, on.0, inv.2),
       looked_on (closed_book c.args.book.now).ignored (flow w m).modules at c.loop-at.depth (omega arith) inv.3 (symbol_of c.in-Next.symbol) c.in-On.next here on.1,

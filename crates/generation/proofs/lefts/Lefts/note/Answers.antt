@@ -11,4 +11,4 @@ returns-then-symbol-eq91 c some is =
 pub returns-then-not-ignored : goal.returns-then-not-ignored
 returns-then-not-ignored c some is =
     let l = c.args.self.now in
-    noted l.row l.wide some c.args.depth c.args.symbol c.requires.here c.if-symbol-eq91.false c.if-not-is-bracket.ensures (sym (is ∙ c.if-not-ignored.true))
+    noted l.row l.wide some c.args.depth c.args.symbol c.requires.here c.if-symbol-eq91.false c.if-not-is_bracket.ensures (sym (is ∙ c.if-not-ignored.true))

@@ -19,22 +19,17 @@ note-requires c =
     let behind = span_last r.opened (symbols_in c.args.modules) (after r.window.first s) c.requires.leads in
     record { here = omega (arith, c.first-depth.ensures, low r); behind = subst (λ d. after d s ≤ 32) (sym c.first-depth.ensures) behind }
 
-pub invariant-of-self : goal.invariant-of-self
-invariant-of-self c =
+pub invariant_of-self : goal.invariant_of-self
+invariant_of-self c =
     let r = c.args.self.now in
-    let popped = pops r.window c.pop.new.self c.args.symbol c.requires.first c.requires.some c.pop.result c.pop.ensures.held c.pop.ensures.first in (
-      omega (arith, c.requires.room, c.len.ensures),
-      (
-        omega (arith, c.min-self.ensures),
-        (
-          omega (arith, c.len.ensures),
-          (
-            subst (λ d. spans r.opened (symbols_in c.args.modules) d ≡ true) (sym popped.1) c.requires.leads,
-            (r.bounds, tt),
-          ),
-        ),
-      ),
-    )
+    let popped = pops r.window c.pop.new.self c.args.symbol c.requires.first c.requires.some c.pop.result c.pop.ensures.held c.pop.ensures.first in
+    record {
+      few = omega (arith, c.requires.room, c.len.ensures);
+      inside = omega (arith, c.min-self.ensures);
+      counted = omega (arith, c.len.ensures);
+      joined = subst (λ d. spans r.opened (symbols_in c.args.modules) d ≡ true) (sym popped.1) c.requires.leads;
+      bounds = r.bounds;
+    }
 
 pub returns : goal.returns
 returns c =

@@ -9,8 +9,8 @@ use Rattle.generation.proofs.rewriter.Rewriter.tell.Goals as goal
 pub returns-then-self-len : goal.returns-then-self-len
 returns-then-self-len c = (none_pending c.args.self.now (omega (arith, c.len.ensures)), refl)
 
-pub depth-after-self-requires : goal.depth-after-self-requires
-depth-after-self-requires c =
+pub depth_after-self-requires : goal.depth_after-self-requires
+depth_after-self-requires c =
     let r = c.args.self.now in
     let x = c.index-filled-self.result in
     let fs = c.filled.result.now in
@@ -18,25 +18,20 @@ depth-after-self-requires c =
     let low = span_first (after r.opened (symbol_of x)) (map symbol_of (rest r fs c.filled.ensures x some c.index-filled-self.is)) r.window.first (rest_spans r fs c.filled.ensures x some c.index-filled-self.is) in
     omega (arith, low)
 
-pub invariant-of-self : goal.invariant-of-self
-invariant-of-self c =
+pub invariant_of-self : goal.invariant_of-self
+invariant_of-self c =
     let r = c.args.self.now in
     let x = c.index-filled-self.result in
     let fs = c.filled.result.now in
-    let some : r.told < length fs = omega (arith, c.len.ensures, ap length c.filled.ensures) in (
-      r.few,
-      (
-        r.inside,
-        (
-          rest_fewer r fs c.filled.ensures x some c.index-filled-self.is,
-          (
-            ap (λ d. spans d (map symbol_of (rest r fs c.filled.ensures x some c.index-filled-self.is)) r.window.first) c.depth-after-self.ensures
-                ∙ rest_spans r fs c.filled.ensures x some c.index-filled-self.is,
-            (r.bounds, tt),
-          ),
-        ),
-      ),
-    )
+    let some : r.told < length fs = omega (arith, c.len.ensures, ap length c.filled.ensures) in
+    record {
+      few = r.few;
+      inside = r.inside;
+      counted = rest_fewer r fs c.filled.ensures x some c.index-filled-self.is;
+      joined = ap (λ d. spans d (map symbol_of (rest r fs c.filled.ensures x some c.index-filled-self.is)) r.window.first) c.depth_after-self.ensures
+          ∙ rest_spans r fs c.filled.ensures x some c.index-filled-self.is;
+      bounds = r.bounds;
+    }
 
 pub returns : goal.returns
 returns c =
@@ -45,7 +40,7 @@ returns c =
     let fs = c.filled.result.now in
     let some : r.told < length fs = omega (arith, c.len.ensures, ap length c.filled.ensures) in (
       first_pending r fs c.filled.ensures x some c.index-filled-self.is,
-      c.depth-after-self.ensures,
+      c.depth_after-self.ensures,
       refl,
       record { book_stays = refl; window_stays = refl; lefts_stay = refl; made_stays = refl; place_stays = refl },
     )

@@ -16,8 +16,8 @@ use Rattle.generation.proofs.Outcoming.{low, letter_spans, growth_spans, is_itse
 use Rattle.generation.proofs.Answered.{answers_as}
 use Rattle.generation.proofs.rewriter.Rewriter.work.Goals as goal
 
-pub overflow-sub-depth : goal.overflow-sub-depth
-overflow-sub-depth c = let r = c.args.self.now in omega (arith, c.first-depth.ensures, low r)
+pub overflow_sub-depth : goal.overflow_sub-depth
+overflow_sub-depth c = let r = c.args.self.now in omega (arith, c.first-depth.ensures, low r)
 
 -- the outcome with the neighbour that is kept for the depth
 module _ (r : Rewriter) (x : Option Module) (d : ℕ) (is : option_map symbol_of x ≡ table r.lefts d) (same : d ≡ r.window.first) (s : Symbol) (o : Option Symbol) where

@@ -3,11 +3,11 @@ use Rattle.word.specs.declared.module.Module.{Module}
 use Rattle.generation.proofs.Rowing.{part_length, part_at}
 use Rattle.generation.proofs.window.Window.at.Goals as goal
 
-pub overflow-add-result : goal.overflow-add-result
-overflow-add-result c = let w = c.args.self.now in omega (arith, part_length w.row w.start w.len w.wide w.within, c.requires)
+pub overflow_add-result : goal.overflow_add-result
+overflow_add-result c = let w = c.args.self.now in omega (arith, part_length w.row w.start w.len w.wide w.within, c.requires)
 
-pub offset-bounds-self-self : goal.offset-bounds-self-self
-offset-bounds-self-self c = let w = c.args.self.now in omega (arith, part_length w.row w.start w.len w.wide w.within, c.requires)
+pub offset_bounds-self-self : goal.offset_bounds-self-self
+offset_bounds-self-self c = let w = c.args.self.now in omega (arith, part_length w.row w.start w.len w.wide w.within, c.requires)
 
 pub listed : goal.listed
 listed c = let w = c.args.self.now in omega (arith, part_length w.row w.start w.len w.wide w.within, c.requires)

@@ -5,19 +5,21 @@ use Rattle.generation.specs.Spans.{spans}
 use Rattle.generation.proofs.Rowing.{part_moved, turned_length}
 use Rattle.generation.proofs.window.Window.make_room.Goals as goal
 
-pub invariant-of-self : goal.invariant-of-self
-invariant-of-self c =
+pub invariant_of-self : goal.invariant_of-self
+invariant_of-self c =
     let w = c.args.self.now in
-    let moved = part_moved w.row w.start w.len w.wide w.within c.rotate-left.new.self c.rotate-left.ensures.after in (
-      turned_length w.row w.start w.len w.wide w.within c.rotate-left.new.self c.rotate-left.ensures.after,
-      (omega arith, (subst (λ (l : List Module). spans w.first (map symbol_of l) w.last ≡ true) (sym moved) w.joined, tt)),
-    )
+    let moved = part_moved w.row w.start w.len w.wide w.within c.rotate_left.new.self c.rotate_left.ensures.after in
+    record {
+      wide = turned_length w.row w.start w.len w.wide w.within c.rotate_left.new.self c.rotate_left.ensures.after;
+      within = omega arith;
+      joined = subst (λ (l : List Module). spans w.first (map symbol_of l) w.last ≡ true) (sym moved) w.joined;
+    }
 
 pub returns : goal.returns
 returns c =
     let w = c.args.self.now in
     record {
-      held = part_moved w.row w.start w.len w.wide w.within c.rotate-left.new.self c.rotate-left.ensures.after;
+      held = part_moved w.row w.start w.len w.wide w.within c.rotate_left.new.self c.rotate_left.ensures.after;
       room = omega arith;
       first = refl;
       last = refl;

@@ -29,26 +29,22 @@ module _ (w : Window) (r : Module) (is : r ≡ get_or w.row w.start r) where
   read_is : read ≡ get_or w.row w.start read
   read_is = ap (λ (y : Module). get_or w.row w.start y) is
 
-pub depth-after-self-requires : goal.depth-after-self-requires
-depth-after-self-requires c =
+pub depth_after-self-requires : goal.depth_after-self-requires
+depth_after-self-requires c =
     let w = c.args.self.now in
     let r = c.index-self-self.result in
     omega (arith, span_first _ (map symbol_of (left w)) w.last (rest_spans w (read w r c.index-self-self.is) c.if-self-eq0.false (read_is w r c.index-self-self.is)))
 
-pub invariant-of-self : goal.invariant-of-self
-invariant-of-self c =
+pub invariant_of-self : goal.invariant_of-self
+invariant_of-self c =
     let w = c.args.self.now in
-    let r = c.index-self-self.result in (
-      w.wide,
-      (
-        omega arith,
-        (
-          ap (λ e. spans e (map symbol_of (left w)) w.last) c.depth-after-self.ensures
-              ∙ rest_spans w (read w r c.index-self-self.is) c.if-self-eq0.false (read_is w r c.index-self-self.is),
-          tt,
-        ),
-      ),
-    )
+    let r = c.index-self-self.result in
+    record {
+      wide = w.wide;
+      within = omega arith;
+      joined = ap (λ e. spans e (map symbol_of (left w)) w.last) c.depth_after-self.ensures
+          ∙ rest_spans w (read w r c.index-self-self.is) c.if-self-eq0.false (read_is w r c.index-self-self.is);
+    }
 
 pub returns : goal.returns
 returns c =
@@ -56,6 +52,6 @@ returns c =
     let r = c.index-self-self.result in
     record {
       held = first_off w (read w r c.index-self-self.is) c.if-self-eq0.false (read_is w r c.index-self-self.is);
-      first = c.depth-after-self.ensures;
+      first = c.depth_after-self.ensures;
       last = refl;
     }
