@@ -1,14 +1,14 @@
 -- Reading ahead leaves what flows as it was.
-use Rattle.std.proofs.Common.{◌≡◌, ℕ, ◌≤◌, Bool, true, false, cond, not, ◌&&◌, eqb, leb, List, [], ◌∷◌, ◌++◌, map, sym, refl, ap, ◌∙◌, subst, append_assoc, append-nil, arith, eq-eqb, leb-true}
+use Rattle.std.proofs.Common.{◌≡◌, ℕ, ◌≤◌, Bool, true, cond, not, ◌&&◌, eqb, leb, List, [], ◌∷◌, ◌++◌, map, sym, ap, ◌∙◌, subst, append_assoc, append-nil, arith, eq-eqb, leb-true}
 use Rattle.std.proofs.lemmas.List.{map_push}
 use Rattle.std.proofs.lemmas.Bool.{and_parts, eqb-true, ne_eqb}
 use Rattle.word.specs.declared.module.Module.{Module}
-use Rattle.word.specs.declared.drawn.Drawn.TheVariants.{Next, Clean, Broken}
+use Rattle.word.specs.declared.drawn.Drawn.TheVariants.{Next}
 use Rattle.word.specs.Symbols.{Symbol, is_close}
 use Rattle.word.specs.Words.{Ending, clean, broken, Told, Meaning, after, nested, Lawful}
 use Rattle.word.specs.Records.{symbol_of, Draws}
 use Rattle.generation.specs.declared.window.Window.{Window}
-use Rattle.generation.specs.Windows.{in_window, held, stale, still, flow, Kept, Fetched}
+use Rattle.generation.specs.Windows.{in_window, held, stale, still, flow, Kept}
 
 pub nested_low : (d : ℕ) (w : List Symbol) (e : Ending) → nested d w e ≡ true → d ≤ 32
 nested_low d [] clean h = let z = eqb-true d 0 h in omega arith

@@ -12,6 +12,7 @@ pub mod Rowing
 pub mod Fetching
 pub mod Seeing
 pub mod Looks
+pub mod Seeking
 pub mod Onwards
 pub mod Outcoming
 pub mod Passing

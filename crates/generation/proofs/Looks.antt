@@ -1,11 +1,10 @@
 -- A look ahead, one module on.
-use Rattle.std.proofs.Common.{◌≡◌, ℕ, suc, ◌+◌, ◌-◌, ◌<◌, ◌≤◌, Bool, List, [], ◌∷◌, drop, sym, refl, ap, ◌∙◌, subst, arith}
-use Rattle.word.specs.declared.module.Module.{Module}
+use Rattle.std.proofs.Common.{◌≡◌, ℕ, suc, ◌+◌, ◌-◌, ◌<◌, Bool, List, ◌∷◌, drop, ap, ◌∙◌, subst, arith}
 use Rattle.word.specs.declared.drawn.Drawn.{Drawn}
 use Rattle.word.specs.Symbols.{Symbol}
 use Rattle.word.specs.Words.{Told, Meaning}
 use Rattle.generation.specs.declared.window.Window.{Window}
-use Rattle.generation.specs.Stream.{Look, scan}
+use Rattle.generation.specs.Stream.{scan}
 use Rattle.generation.specs.Windows.{flow, Kept}
 use Rattle.generation.specs.Looking.{Stands}
 

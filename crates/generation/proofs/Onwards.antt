@@ -1,18 +1,17 @@
 -- One turn: what is still to tell stays the same.
-use Rattle.std.proofs.Common.{◌≡◌, ℕ, ◌+◌, List, [], ◌∷◌, ◌++◌, map, length, drop, Some, None, sym, refl, ap, ◌∙◌}
-use Rattle.word.specs.declared.fault.Fault.{Fault}
+use Rattle.std.proofs.Common.{◌≡◌, ℕ, List, [], ◌∷◌, ◌++◌, map, drop, None, sym, ap, ◌∙◌}
 use Rattle.word.specs.declared.module.Module.{Module}
 use Rattle.word.specs.Symbols.{Symbol}
-use Rattle.word.specs.Words.{Ending, Told, Meaning, broken, after}
+use Rattle.word.specs.Words.{Ending, Meaning}
 use Rattle.word.specs.Records.{symbol_of}
 use Rattle.books.specs.Kinds.{closed_book}
 use Rattle.generation.specs.declared.rewriter.Rewriter.{Rewriter}
 use Rattle.generation.specs.Generations.{Part, adds, stops}
-use Rattle.generation.specs.Stream.{Table, turn, streamed}
+use Rattle.generation.specs.Stream.{turn, streamed}
 use Rattle.generation.specs.Tables.{table}
-use Rattle.generation.specs.Windows.{in_window, held, still, flow}
-use Rattle.generation.specs.Rewriting.{pending, telling, in_all, left_in, Passes, Turned}
-use Rattle.generation.proofs.Turning.{later, turn_adds, turn_stops}
+use Rattle.generation.specs.Windows.{in_window, still, flow}
+use Rattle.generation.specs.Rewriting.{pending, telling, in_all, left_in, Turned}
+use Rattle.generation.proofs.Turning.{turn_adds, turn_stops}
 
 module _ (r r' : Rewriter) (m : Meaning) (x : Module) (rest : List Module) (none : pending r ≡ []) (no_fault : r.fault ≡ None) (hand : in_window r.window ≡ x ∷ rest) where
   abbrev come : List Symbol

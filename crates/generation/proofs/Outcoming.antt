@@ -1,5 +1,5 @@
 -- The outcome of one module, as the code finds it.
-use Rattle.std.proofs.Common.{◌≡◌, ℕ, zero, suc, ◌+◌, ◌<◌, ◌≤◌, min, Bool, true, false, cond, not, ◌&&◌, ◌||◌, eqb, leb, List, [], ◌∷◌, map, length, get_or, None, Option, sym, refl, ap, ◌∙◌, subst, arith, le-leb, leb-true}
+use Rattle.std.proofs.Common.{◌≡◌, ℕ, ◌+◌, ◌<◌, ◌≤◌, Bool, true, false, cond, not, ◌&&◌, ◌||◌, eqb, leb, List, [], ◌∷◌, length, get_or, None, Option, sym, refl, ap, ◌∙◌, subst, arith, le-leb}
 use lib.ListN.{length-map}
 use borrow.Author.Tests.{lt-leb}
 use Rattle.std.proofs.lemmas.Bool.{and_parts, and_from, eqb-true}
@@ -11,11 +11,10 @@ use Rattle.word.specs.Symbols.{Symbol, is_open, is_close, is_bracket}
 use Rattle.word.specs.Words.{after}
 use Rattle.word.specs.Records.{symbol_of}
 use Rattle.books.specs.declared.modules.Modules.{Modules}
-use Rattle.books.specs.declared.growth.Growth.{Growth}
 use Rattle.books.specs.Outcomes.{Outcome, itself, grown, fault}
 use Rattle.books.specs.Nesting.{balanced, deepest}
 use Rattle.books.specs.Few.{modules_in, symbols_in}
-use Rattle.generation.specs.Generations.{found, Part, adds, stops, added, worked}
+use Rattle.generation.specs.Generations.{found, adds, stops, added, worked}
 use Rattle.generation.specs.Stream.{shown}
 use Rattle.generation.specs.Spans.{spans}
 use Rattle.generation.proofs.Agreement.{after_plain}

@@ -1,5 +1,5 @@
 -- One module is passed over.
-use Rattle.std.proofs.Common.{◌≡◌, ℕ, suc, ◌+◌, ◌<◌, ◌≤◌, min, true, not, ◌&&◌, eqb, leb, List, [], ◌∷◌, map, length, get_or, drop, IfSome, Some, None, Option, sym, refl, ap, ◌∙◌, subst, arith, MatchOption}
+use Rattle.std.proofs.Common.{◌≡◌, ℕ, ◌+◌, ◌<◌, min, true, not, ◌&&◌, eqb, leb, List, [], ◌∷◌, map, length, get_or, drop, IfSome, Some, None, Option, sym, ap, ◌∙◌, subst, arith, MatchOption}
 use Rattle.std.proofs.lemmas.Bool.{and_parts, and_from}
 use Rattle.word.specs.declared.module.Module.{Module}
 use Rattle.word.specs.Symbols.{Symbol, is_close}
@@ -7,7 +7,7 @@ use Rattle.word.specs.Words.{after}
 use Rattle.word.specs.Records.{symbol_of}
 use Rattle.generation.specs.declared.window.Window.{Window}
 use Rattle.generation.specs.Spans.{spans}
-use Rattle.generation.specs.Windows.{in_window, held}
+use Rattle.generation.specs.Windows.{in_window}
 use Rattle.generation.specs.Stream.{onward}
 use Rattle.generation.proofs.Spanning.{no_span, span_first}
 

@@ -1,6 +1,6 @@
 -- A row of which a part is held.
-use Rattle.std.proofs.Common.{◌≡◌, ℕ, suc, ◌+◌, ◌-◌, ◌<◌, ◌≤◌, List, [], ◌∷◌, ◌++◌, length, get_or, take, drop, set, sym, refl, ap, ◌∙◌, arith, length-append, length-drop, length-set, length-take-le}
-use Rattle.std.proofs.lemmas.List.{get_or_read, get_or-take, get_or-drop, take-append-le, take_more_set, drop-set-add, drop_more, take_all}
+use Rattle.std.proofs.Common.{◌≡◌, ℕ, suc, ◌+◌, ◌-◌, ◌<◌, ◌≤◌, List, [], ◌∷◌, ◌++◌, length, get_or, take, drop, set, sym, ap, ◌∙◌, arith, length-append, length-drop, length-take-le}
+use Rattle.std.proofs.lemmas.List.{get_or-take, get_or-drop, take-append-le, take_more_set, drop-set-add, drop_more}
 
 module _ {A : Type 0} (row : List A) (start len : ℕ) {n : ℕ} (wide : length row ≡ n) (within : start + len ≤ n) where
   pub part_length : length (take len (drop start row)) ≡ len

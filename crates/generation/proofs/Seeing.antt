@@ -1,12 +1,12 @@
 -- What stands behind the first module.
-use Rattle.std.proofs.Common.{◌≡◌, ℕ, suc, ◌+◌, ◌<◌, ◌≤◌, Bool, true, false, cond, not, ◌&&◌, ◌⊎◌, List, [], ◌∷◌, ◌++◌, map, length, get_or, drop, sym, refl, ap, ◌∙◌, subst, inl, inr, arith, length-append}
+use Rattle.std.proofs.Common.{◌≡◌, ℕ, ◌+◌, ◌<◌, List, [], ◌∷◌, ◌++◌, map, length, get_or, drop, sym, ap, ◌∙◌, subst, arith, length-append}
 use lib.ListN.{length-map}
 use Rattle.std.proofs.lemmas.List.{get_or_append_left, get_or-map, drop_more, drop_all, get_or_at, length_push}
 use Rattle.word.specs.declared.module.Module.{Module}
 use Rattle.word.specs.declared.drawn.Drawn.{Drawn}
 use Rattle.word.specs.declared.drawn.Drawn.TheVariants.{Next, Clean, Broken}
 use Rattle.word.specs.Symbols.{Symbol}
-use Rattle.word.specs.Words.{clean, broken, Told, Meaning}
+use Rattle.word.specs.Words.{Told, Meaning}
 use Rattle.word.specs.Records.{symbol_of}
 use Rattle.generation.specs.declared.window.Window.{Window}
 use Rattle.generation.specs.Windows.{in_window, held, still, flow, Kept, Fetched, Longer}

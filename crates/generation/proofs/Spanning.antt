@@ -1,8 +1,8 @@
 -- Modules between two depths, one more and one less.
-use Rattle.std.proofs.Common.{◌≡◌, ℕ, zero, suc, ◌≤◌, Bool, true, false, not, ◌&&◌, eqb, leb, List, [], ◌∷◌, ◌++◌, sym, refl, ap, ◌∙◌, subst, arith, eq-eqb, le-leb, leb-true}
+use Rattle.std.proofs.Common.{◌≡◌, ℕ, ◌≤◌, true, not, ◌&&◌, eqb, leb, List, [], ◌∷◌, ◌++◌, sym, refl, subst, eq-eqb, le-leb, leb-true}
 use Rattle.std.proofs.lemmas.Bool.{and_parts, and_from, eqb-true}
 use Rattle.word.specs.Symbols.{Symbol, is_close}
-use Rattle.word.specs.Words.{Ending, clean, broken, after, nested}
+use Rattle.word.specs.Words.{Ending, after, nested}
 use Rattle.generation.specs.Spans.{spans}
 
 pub no_span : (d : ℕ) → d ≤ 32 → spans d [] d ≡ true

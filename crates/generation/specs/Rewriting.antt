@@ -3,11 +3,10 @@ use Rattle.std.specs.Prelude.{◌≡◌, ℕ, ◌+◌, ◌≤◌, true, cond, Li
 use Rattle.word.specs.declared.fault.Fault.{Fault}
 use Rattle.word.specs.declared.module.Module.{Module}
 use Rattle.word.specs.Symbols.{Symbol, is_bracket}
-use Rattle.word.specs.Words.{Ending, clean, broken, Told, Meaning, after, in_bounds}
+use Rattle.word.specs.Words.{broken, Told, Meaning, after, in_bounds}
 use Rattle.word.specs.Records.{symbol_of}
 use Rattle.books.specs.declared.closed_book.ClosedBook.{ClosedBook}
 use Rattle.books.specs.declared.modules.Modules.{Modules}
-use Rattle.books.specs.Books.{Book}
 use Rattle.books.specs.Outcomes.{becomes}
 use Rattle.books.specs.Few.{modules_in, symbols_in}
 use Rattle.books.specs.Kinds.{closed_book}
@@ -18,7 +17,7 @@ use Rattle.generation.specs.Generations.{next, found, Part, adds, stops, added, 
 use Rattle.generation.specs.Stream.{Table, passed, onward, turn, streamed}
 use Rattle.generation.specs.Tables.{table}
 use Rattle.generation.specs.Spans.{spans}
-use Rattle.generation.specs.Windows.{in_window, held, flow}
+use Rattle.generation.specs.Windows.{in_window, flow}
 
 -- what is worked out already
 abbrev pub pending : Rewriter → List Symbol

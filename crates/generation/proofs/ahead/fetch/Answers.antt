@@ -1,4 +1,4 @@
-use Rattle.std.proofs.Common.{◌≡◌, sym, ◌∙◌}
+use Rattle.std.proofs.Common.{sym, ◌∙◌}
 use Rattle.word.specs.Records.{symbol_of}
 use Rattle.generation.proofs.Fetching.{may_close, stays_low, one_fetched}
 use Rattle.generation.proofs.ahead.fetch.Goals as goal

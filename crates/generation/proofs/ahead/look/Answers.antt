@@ -1,4 +1,4 @@
-use Rattle.std.proofs.Common.{◌≡◌, ◌-◌, [], ◌∷◌, drop, ◌∙◌, inl, inr, arith}
+use Rattle.std.proofs.Common.{◌-◌, [], ◌∷◌, ◌∙◌, inl, inr, arith}
 use Rattle.word.specs.declared.drawn.Drawn.TheVariants.{Next, Clean, Broken}
 use Rattle.word.specs.Records.{symbol_of}
 use Rattle.books.specs.Kinds.{closed_book}

@@ -1,4 +1,4 @@
-use Rattle.std.proofs.Common.{◌≡◌, sym, refl, ◌∙◌, arith}
+use Rattle.std.proofs.Common.{refl, arith}
 use Rattle.generation.proofs.Fetching.{none_fetched}
 use Rattle.generation.proofs.Seeing.{held_stands, fetched_stands}
 use Rattle.generation.proofs.ahead.stands_at.Goals as goal

@@ -1,4 +1,4 @@
-use Rattle.std.proofs.Common.{◌≡◌, false, sym, ap, ◌∙◌, arith}
+use Rattle.std.proofs.Common.{sym, ◌∙◌, arith}
 use Rattle.word.specs.Records.{symbol_of}
 use Rattle.generation.proofs.Noting.{after_open, handed_on, noted}
 use Rattle.generation.proofs.lefts.Lefts.note.Goals as goal

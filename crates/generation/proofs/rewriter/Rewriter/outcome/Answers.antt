@@ -7,7 +7,7 @@ use Rattle.books.specs.Few.{symbols_in}
 use Rattle.generation.specs.declared.rewriter.Rewriter.{Rewriter}
 use Rattle.generation.specs.declared.right.Right.{Right}
 use Rattle.generation.specs.declared.right.Right.TheVariants.{Neighbour, Missing, TooFar, Broken}
-use Rattle.generation.specs.Generations.{Part, stops, added}
+use Rattle.generation.specs.Generations.{stops, added}
 use Rattle.generation.specs.Spans.{spans}
 use Rattle.generation.specs.Rewriting.{by_right, part_of, Sound}
 use Rattle.generation.proofs.Agreement.{after_plain}

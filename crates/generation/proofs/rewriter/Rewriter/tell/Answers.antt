@@ -1,4 +1,4 @@
-use Rattle.std.proofs.Common.{◌≡◌, ◌<◌, map, length, refl, ap, ◌∙◌, arith}
+use Rattle.std.proofs.Common.{◌<◌, map, length, refl, ap, ◌∙◌, arith}
 use Rattle.word.specs.Words.{after}
 use Rattle.word.specs.Records.{symbol_of}
 use Rattle.generation.specs.Spans.{spans}

@@ -1,10 +1,10 @@
-use Rattle.std.proofs.Common.{◌≡◌, ℕ, List, [], ◌∷◌, map, Option, sym, ap, ◌∙◌, subst, arith}
+use Rattle.std.proofs.Common.{◌≡◌, ℕ, List, map, Option, sym, ap, ◌∙◌, subst, arith}
 use Rattle.std.specs.Option.{option_map}
 use Rattle.word.specs.declared.module.Module.{Module}
 use Rattle.word.specs.Symbols.{Symbol}
 use Rattle.word.specs.Records.{symbol_of}
 use Rattle.expr.specs.Machine.{cause_number}
-use Rattle.books.specs.Outcomes.{Outcome, becomes}
+use Rattle.books.specs.Outcomes.{becomes}
 use Rattle.books.specs.Kinds.{closed_book}
 use Rattle.books.specs.Few.{symbols_in}
 use Rattle.generation.specs.declared.rewriter.Rewriter.{Rewriter}

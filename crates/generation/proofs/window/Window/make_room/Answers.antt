@@ -1,4 +1,4 @@
-use Rattle.std.proofs.Common.{◌≡◌, true, List, map, sym, refl, ap, ◌∙◌, subst, arith}
+use Rattle.std.proofs.Common.{◌≡◌, true, List, map, sym, refl, subst, arith}
 use Rattle.word.specs.declared.module.Module.{Module}
 use Rattle.word.specs.Records.{symbol_of}
 use Rattle.generation.specs.Spans.{spans}

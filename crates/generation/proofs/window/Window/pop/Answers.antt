@@ -1,6 +1,5 @@
-use Rattle.std.proofs.Common.{◌≡◌, ◌+◌, ◌-◌, ◌<◌, true, List, ◌∷◌, map, get_or, take, drop, sym, refl, ap, ◌∙◌, subst, arith}
+use Rattle.std.proofs.Common.{◌≡◌, ◌+◌, ◌-◌, ◌<◌, true, List, ◌∷◌, map, get_or, take, drop, refl, ap, ◌∙◌, subst, arith}
 use Rattle.word.specs.declared.module.Module.{Module}
-use Rattle.word.specs.Symbols.{Symbol}
 use Rattle.word.specs.Words.{after}
 use Rattle.word.specs.Records.{symbol_of}
 use Rattle.generation.specs.declared.window.Window.{Window}

@@ -1,7 +1,7 @@
 use Rattle.std.proofs.Common.{◌≡◌, ◌≤◌, true, not, ◌&&◌, eqb, List, [], ◌∷◌, ◌++◌, map, sym, ap, ◌∙◌, subst, arith, length-set}
 use Rattle.std.proofs.lemmas.List.{map_push}
 use Rattle.word.specs.declared.module.Module.{Module}
-use Rattle.word.specs.Symbols.{Symbol, is_close}
+use Rattle.word.specs.Symbols.{is_close}
 use Rattle.word.specs.Words.{after}
 use Rattle.word.specs.Records.{symbol_of}
 use Rattle.generation.specs.Spans.{spans}
