@@ -53,12 +53,12 @@ def declared(text):
             inside = m.group(1)
             yield m.group(2), True
             continue
-        m = re.match(r"\s*(?:(?:abbrev|unfoldable) )?(?:pub )?((?:" + NAME + r" )+): (.*)$", line)
+        m = re.match(r"\s*(?:(?:abbrev|unfoldable) )?(?:pub )?((?:" + NAME + r" )+):(?: (.*))?$", line)
         if not m or line.lstrip().startswith(("use ", "module ", "let ", "|")):
             continue
-        kind = m.group(2)
+        kind = m.group(2) or ""
         j = i + 1
-        while j < len(lines) and re.match(r"\s", lines[j]) and kind.rstrip().endswith(("→", "(", ",", "×", ":")):
+        while j < len(lines) and re.match(r"\s", lines[j]) and (not kind.strip() or kind.rstrip().endswith(("→", "(", ",", "×", ":"))):
             kind += " " + lines[j].strip()
             j += 1
         if re.match(r"goal\.", kind):

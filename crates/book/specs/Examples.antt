@@ -64,7 +64,7 @@ pub record Examples : Type 0 where
     guarded = record { first = name 98; relation = Less; second = name 100 } ∷ record { first = name 100; relation = Less; second = name 102 } ∷ [];
     successor = record { letter = 103; arguments = values.over (values.times (name 98) (minus (name 100))) (name 102) ∷ [] } ∷ [];
   })
-  pub six-orders :
+  pub six_orders :
       (book_of seven nine three ≡ book_of seven three nine)
       × (book_of three seven nine ≡ book_of seven three nine)
       × (book_of three nine seven ≡ book_of seven three nine)

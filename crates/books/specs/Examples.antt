@@ -29,7 +29,7 @@ abbrev pub bare : ℕ → Symbol
 bare c = record { letter = c; params = [] }
 
 pub record Examples : Type 0 where
-  pub six-orders :
+  pub six_orders :
       (book_of seven nine three ≡ book_of seven three nine)
       × (book_of three seven nine ≡ book_of seven three nine)
       × (book_of three nine seven ≡ book_of seven three nine)

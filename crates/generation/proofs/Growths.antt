@@ -4,7 +4,7 @@ use Rattle.generation.specs.Growths.{Growths}
 
 pub growths : Growths
 growths = record {
-  signal-runs = (refl, refl);
+  signal_runs = (refl, refl);
   branches = (refl, refl, refl);
   any_order = (refl, refl, refl, refl, refl, refl);
   left_first = (refl, refl);
@@ -13,14 +13,14 @@ growths = record {
   clean_end = (refl, refl);
   just_deep = refl;
   too_deep = refl;
-  by-guard = refl;
-  guard-faults = (refl, refl, refl);
+  by_guard = refl;
+  guard_faults = (refl, refl, refl);
   by_names = refl;
-  argument-faults = refl;
-  passed-up = (refl, refl);
+  argument_faults = refl;
+  passed_up = (refl, refl);
   passed_later = (refl, refl);
   closes_branch = refl;
-  from-within = (refl, refl, refl, refl);
-  last-number = (refl, refl);
+  from_within = (refl, refl, refl, refl);
+  last_number = (refl, refl);
   room = (refl, refl, refl);
 }

@@ -112,10 +112,10 @@ module _ (ignored : ℕ → Bool) (k : ℕ) (w : List Symbol) (i : ℕ) where
 
 pub neighbours_are : NeighboursAre
 neighbours_are = record {
-  on-the-left = λ ignored k w i.
+  on_the_left = λ ignored k w i.
       greatest_like _ _ (to_left ignored k w i) (from_left ignored k w i) (left ignored k w i)
       (greatest_is i (λ j. stands ignored k w j && above ignored k w j j i));
-  on-the-right = λ ignored k w i.
+  on_the_right = λ ignored k w i.
       least_like _ _ (to_right ignored k w i) (from_right ignored k w i) (right ignored k w i)
       (least_is (suc i) (length w - suc i) (λ j. stands ignored k w j && level ignored k w i j));
 }

@@ -138,7 +138,7 @@ doubles = of (line 1 "" "A" "" [] (pieces "AA") ∷ [])
 
 pub record Growths : Type 0 where
   -- a signal runs along the stem and into the branch, past what is ignored
-  pub signal-runs :
+  pub signal_runs :
       Grows signal (plain "BA[+A]AA") (plain "AB[+A]AA")
       × (generated signal (tells 1 0 (plain "AB[+A]AA") clean) ≡ tells 2 0 (plain "AA[+B]BA") clean)
   -- a branch between is passed over on the right, and what stands outside one's own branch is no neighbour
@@ -160,10 +160,10 @@ pub record Growths : Type 0 where
   pub just_deep : Grows deepens (deep 31) (deep 32)
   pub too_deep : Stops deepens (deep 32) (replicate 32 (one "[" [])) (ends 33 1 33)
   -- a guard that is false leaves the module as it is
-  pub by-guard :
+  pub by_guard :
       Grows guarded (one "A" (pos 2 ∷ []) ∷ one "A" (pos 3 ∷ []) ∷ []) (one "B" (pos 2 ∷ []) ∷ one "A" (pos 3 ∷ []) ∷ [])
   -- a guard that faults decides, before the rules behind it are tried
-  pub guard-faults :
+  pub guard_faults :
       Stops divides (one "B" [] ∷ one "A" (pos 0 ∷ []) ∷ []) (plain "B") (ends 31 1 2)
       × Grows divides (one "C" [] ∷ one "A" (pos 0 ∷ []) ∷ []) (plain "CD")
       × Grows divides (one "B" [] ∷ one "A" (pos 1 ∷ []) ∷ []) (plain "BD")
@@ -172,10 +172,10 @@ pub record Growths : Type 0 where
       Grows binds (one "A" (pos 2 ∷ []) ∷ one "B" (pos 3 ∷ []) ∷ one "C" (pos 5 ∷ []) ∷ [])
       (one "A" (pos 2 ∷ []) ∷ one "D" (pos 17 ∷ negsuc 2 ∷ []) ∷ one "C" (pos 5 ∷ []) ∷ [])
   -- an argument that faults: what grew before is told
-  pub argument-faults :
+  pub argument_faults :
       Stops shares (one "A" (pos 3 ∷ []) ∷ one "A" (pos 0 ∷ []) ∷ []) (one "B" [] ∷ one "A" (pos 2 ∷ []) ∷ []) (ends 31 1 2)
   -- a look ahead that comes to a fault passes it up as it is, even where a rule without a right side would win
-  pub passed-up :
+  pub passed_up :
       (generated sides (tells 3 0 (plain "BA") (ends 32 2 7)) ≡ tells 4 0 (plain "B") (ends 32 2 7))
       × (generated meets_over (tells 3 0 (far 63 "") (ends 32 2 7)) ≡ tells 4 0 [] (ends 32 2 7))
   -- a fault behind what settles the right neighbour stops nothing before it, and a module that does not look ahead grows
@@ -185,13 +185,13 @@ pub record Growths : Type 0 where
   -- the `]` that closes the branch settles that there is no right neighbour
   pub closes_branch : generated meets (tells 3 0 (plain "[A[B]]") (ends 32 2 7)) ≡ tells 4 0 (plain "[A[B]]") (ends 32 2 7)
   -- brackets open before the word count, and no left neighbour stands before it
-  pub from-within :
+  pub from_within :
       (generated follows (tells 0 1 (plain "AA]A") clean) ≡ tells 1 1 (plain "AB]A") clean)
       × (generated meets (tells 0 1 (plain "A]C") clean) ≡ tells 1 1 (plain "A]C") clean)
       × (generated deepens (tells 0 31 (plain "A") (ends 32 0 5)) ≡ tells 1 31 (plain "[A]") (ends 32 0 5))
       × (generated deepens (tells 0 32 (plain "A") (ends 32 0 5)) ≡ tells 1 32 [] (ends 33 1 1))
   -- the generation number stays at 255
-  pub last-number :
+  pub last_number :
       (generated deepens (tells 254 0 (plain "A") clean) ≡ tells 255 0 (plain "[A]") clean)
       × (generated deepens (tells 255 32 (plain "A") (ends 32 0 5)) ≡ tells 255 32 [] (ends 33 255 1))
   -- the result has room for 16,000,000 modules, brackets among them

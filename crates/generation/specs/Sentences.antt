@@ -31,7 +31,7 @@ Least P (Some j) = P j × ((x : ℕ) → P x → j ≤ x)
 
 -- the neighbours found are those of the sentences
 pub record NeighboursAre : Type 0 where
-  pub on-the-left :
+  pub on_the_left :
       (ignored : ℕ → Bool) (k : ℕ) (w : List Symbol) (i : ℕ) → Greatest (LeftOf ignored k w i) (left ignored k w i)
-  pub on-the-right :
+  pub on_the_right :
       (ignored : ℕ → Bool) (k : ℕ) (w : List Symbol) (i : ℕ) → Least (RightOf ignored k w i) (right ignored k w i)
