@@ -233,7 +233,7 @@ Coded product t = postfix t ≡ code_of (sense t)
 Coded factor t = postfix t ≡ code_of (sense t)
 Coded operand t = postfix t ≡ code_of (sense t)
 
-one_more : (cs : List Comparison) (c : Comparison) → comparisons_code (cs ++ (c ∷ [])) ≡ comparisons_code cs ++ ((code_of c.first ++ code_of c.second) ++ (Compare c.relation ∷ []))
+pub one_more : (cs : List Comparison) (c : Comparison) → comparisons_code (cs ++ (c ∷ [])) ≡ comparisons_code cs ++ ((code_of c.first ++ code_of c.second) ++ (Compare c.relation ∷ []))
 one_more [] c = append-nil ((code_of c.first ++ code_of c.second) ++ (Compare c.relation ∷ []))
 one_more (d ∷ ds) c =
     let x = (code_of d.first ++ code_of d.second) ++ (Compare d.relation ∷ []) in

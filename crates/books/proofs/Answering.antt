@@ -2,12 +2,14 @@
 use Rattle.std.proofs.Common.{◌≡◌, ℕ, zero, suc, ◌+◌, ◌≤◌, Bool, true, false, cond, not, ◌&&◌, ◌||◌, ltb, leb, ◌⊎◌, List, length, Ok, Err, Result, sym, refl, ◌∙◌, subst, inl, inr, arith, MatchResult}
 use Rattle.rules.specs.declared.refusal.Refusal.{Refusal}
 use Rattle.rules.specs.declared.refusal.Refusal.TheVariants.{TooLong, NotByGrammar, PrintedNumber, NumberTooLarge, Names, Nesting, TooManyModules, NumberHeld, TooManyRules, TooMuchCode}
-use Rattle.rules.specs.Rules.{Rule, Entry, rule, ignores}
+use Rattle.book.specs.Rules.{Rule}
+use Rattle.book.specs.Books.{Entry, rule, ignores}
 use Rattle.rules.specs.Places.{numbers, names, expressions, each, given_names, places_of}
 use Rattle.rules.specs.Wrong.{some_over, some_twice, some_missing, nests}
 use Rattle.rules.specs.Refusals.{refusal_number, answer_number}
 use Rattle.lines.specs.Reading.{Says, Unread}
-use Rattle.books.specs.Books.{Book, with_entry, holds_number, code_places, no_place, refused}
+use Rattle.book.specs.Books.{Book, with_entry}
+use Rattle.books.specs.Refused.{holds_number, code_places, no_place, refused}
 use Rattle.books.specs.Loading.{Loads}
 
 -- a refusal has a number

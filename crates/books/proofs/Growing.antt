@@ -16,7 +16,7 @@ use Rattle.expr.specs.Codes.{decoded, latest}
 use Rattle.expr.specs.Machine.{cause_number, arguments_of}
 use Rattle.expr.proofs.Ranges.{arguments_in_range}
 use Rattle.rules.specs.declared.piece.Piece.{Piece}
-use Rattle.rules.specs.Rules.{Form, given, given_beside}
+use Rattle.book.specs.Rules.{Form, given, given_beside}
 use Rattle.rules.specs.Records.{pieces_from}
 use Rattle.books.specs.Outcomes.{Outcome, itself, grown, fault, with_first, successor}
 use Rattle.books.specs.Trying.{behind, Grows}

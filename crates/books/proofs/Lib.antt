@@ -1,5 +1,4 @@
 pub mod Rows
-pub mod Ordering
 pub mod Sorting
 pub mod Placing
 pub mod Loading

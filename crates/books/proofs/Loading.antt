@@ -1,53 +1,22 @@
 -- The law of loading.
 use Rattle.std.proofs.Common.{◌≡◌, ℕ, zero, suc, ◌+◌, Bool, true, false, cond, ◌||◌, eqb, ltb, leb, ◌⊎◌, List, [], ◌∷◌, length, sym, refl, ap, ◌∙◌, subst, inl, inr, arith}
-use mathlib.Core.Path.{fun_ext}
 use Rattle.std.proofs.lemmas.Bool.{cond-false, both_ways, ne_eqb, or_cases, cases_eq}
 use Rattle.word.specs.Symbols.{among}
-use Rattle.rules.specs.Rules.{Rule, Entry, rule, ignores}
+use Rattle.book.specs.Rules.{Rule}
+use Rattle.book.specs.Books.{Entry, rule, ignores}
 use Rattle.rules.specs.Places.{places_of}
 use Rattle.rules.specs.Wrong.{wrong}
 use Rattle.rules.proofs.Judging.{wrong_none, wrong_some}
 use Rattle.lines.specs.Reading.{Says}
-use Rattle.lines.proofs.Recovered.{one_meaning}
-use Rattle.books.specs.Books.{Book, empty, with_rule, with_entry, holds_number, code_places, no_place, refused, loaded}
+use Rattle.book.proofs.Recovered.{one_meaning}
+use Rattle.book.specs.Books.{Book, empty, with_rule, with_entry, loaded, DiffersAll, Distinct}
+use Rattle.books.specs.Refused.{holds_number, code_places, no_place, refused}
 use Rattle.books.specs.Loading.{Loads, Offer, Run, taken, Said, Among, Reordered, none, keep, swap, then, Law}
-use Rattle.books.proofs.Ordering.{commute}
+use Rattle.book.proofs.Loading.{two_entries, differs_sym}
 use Rattle.books.proofs.Placing.{past}
 use Rattle.books.proofs.Sorting.{in_new, in_old, in_only, apart}
 
 -- entries put in one after the other, in any order
-or_swap : (x y z : Bool) → (x || (y || z)) ≡ (y || (x || z))
-or_swap true true z = refl
-or_swap true false z = refl
-or_swap false y z = refl
-
--- no two rules have one printed number
-abbrev Differs : Entry → Entry → Type 0
-Differs (rule u) (rule v) = u.number ≡ v.number → ⊥
-Differs (rule u) (ignores cs) = Unit {0}
-Differs (ignores cs) e = Unit {0}
-
-abbrev DiffersAll : Entry → List Entry → Type 0
-DiffersAll e [] = Unit {0}
-DiffersAll e (d ∷ ds) = Differs e d × DiffersAll e ds
-
-abbrev Distinct : List Entry → Type 0
-Distinct [] = Unit {0}
-Distinct (e ∷ es) = DiffersAll e es × Distinct es
-
-two_entries : (d e : Entry) (b : Book) → Differs d e → with_entry e (with_entry d b) ≡ with_entry d (with_entry e b)
-two_entries (rule u) (rule v) b n = ap (λ (l : List Rule). record { rules = l; ignored = b.ignored }) (commute u v n b.rules)
-two_entries (rule u) (ignores cs) b n = refl
-two_entries (ignores cs) (rule v) b n = refl
-two_entries (ignores cs) (ignores ds) b n =
-    ap (λ (f : ℕ → Bool). record { rules = b.rules; ignored = f }) (fun_ext (λ c. or_swap (among c ds) (among c cs) (b.ignored c)))
-
-differs_sym : (d e : Entry) → Differs d e → Differs e d
-differs_sym (rule u) (rule v) n = λ q. n (sym q)
-differs_sym (rule u) (ignores cs) n = tt
-differs_sym (ignores cs) (rule v) n = tt
-differs_sym (ignores cs) (ignores ds) n = tt
-
 differs_moved : (e : Entry) {es ds : List Entry} → Reordered es ds → DiffersAll e es → DiffersAll e ds
 differs_moved e none h = tt
 differs_moved e (keep r) h = (h.0, differs_moved e r h.1)

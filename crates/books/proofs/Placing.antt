@@ -5,14 +5,15 @@ use Rattle.std.proofs.lemmas.List.{length-drop, take_all, take-append-le, drop-a
 use Rattle.std.proofs.lemmas.Bool.{and_parts, and_from}
 use Rattle.expr.specs.declared.code.Code.{Code}
 use Rattle.rules.specs.declared.draft.Draft.{Draft}
-use Rattle.rules.specs.Rules.{Rule}
+use Rattle.book.specs.Rules.{Rule}
 use Rattle.rules.specs.Records.{rule_from, code_in}
 use Rattle.rules.specs.Drafts.{rule_of}
 use Rattle.rules.specs.Places.{numbers, names, expressions, each, given_names, places_of}
 use Rattle.rules.specs.Wrong.{some_over, some_twice, some_missing, nests, wrong}
 use Rattle.rules.proofs.Counting.{draft_places}
 use Rattle.books.specs.declared.rule.Rule.{Rule as StoredRule}
-use Rattle.books.specs.Books.{Book, with_rule, holds_number, code_places, no_place}
+use Rattle.book.specs.Books.{Book, with_rule}
+use Rattle.books.specs.Refused.{holds_number, code_places, no_place}
 use Rattle.books.specs.Stored.{rule_in, rules_in}
 use Rattle.books.specs.Making.{Made}
 use Rattle.books.specs.Order.{head_precedes, spot, numbered}

@@ -1,12 +1,13 @@
 -- Rules put where they belong: who is there, and in which order.
 use Rattle.std.proofs.Common.{◌≡◌, ℕ, ◌+◌, Bool, true, false, cond, ◌||◌, eqb, ◌⊎◌, List, [], ◌∷◌, sym, refl, ap, ◌∙◌, subst, inl, inr, arith, eq-eqb}
 use Rattle.std.proofs.lemmas.Bool.{and_parts, and_from, both_ways}
-use Rattle.rules.specs.Rules.{Rule}
+use Rattle.book.specs.Rules.{Rule}
 use Rattle.rules.specs.Places.{places_of}
-use Rattle.books.specs.Books.{rank_of, precedes, with_rule, holds_number, code_places}
+use Rattle.book.specs.Books.{rank_of, precedes, with_rule}
+use Rattle.books.specs.Refused.{holds_number, code_places}
 use Rattle.books.specs.Loading.{Among}
 use Rattle.books.specs.Kept.{leads, ascending}
-use Rattle.books.proofs.Ordering.{total, through}
+use Rattle.book.proofs.Ordering.{total, through}
 
 -- a rule put among others is there, and so are they, and nothing else
 pub in_new : (u : Rule) (vs : List Rule) → Among u (with_rule u vs)

@@ -9,7 +9,7 @@ use Rattle.expr.specs.Values.{Expr, number, Env, Value, is, wrong, Verdict, pass
 use Rattle.expr.specs.Codes.{top, below, decoded, latest}
 use Rattle.expr.proofs.Ranges.{arguments_in_range}
 use Rattle.rules.specs.declared.piece.Piece.{Piece as StoredPiece}
-use Rattle.rules.specs.Rules.{Piece, Rule, names_at}
+use Rattle.book.specs.Rules.{Piece, Rule, names_at}
 use Rattle.rules.specs.Records.{pieces_from, bare}
 use Rattle.rules.specs.Wrong.{after, nests}
 use Rattle.rules.specs.Wrong as rules
@@ -17,7 +17,7 @@ use Rattle.rules.proofs.Depths.{nests_bare, deepest_bare}
 use Rattle.books.specs.declared.rule.Rule.{Rule as StoredRule}
 use Rattle.books.specs.declared.closed_book.ClosedBook.{ClosedBook}
 use Rattle.books.specs.Loading.{Among}
-use Rattle.books.specs.Winners.{says, decides, winner}
+use Rattle.book.specs.Winners.{says, decides, winner}
 use Rattle.books.specs.Outcomes.{Outcome, itself, grown, fault, with_first, successor, by_verdict, by_rule, becomes}
 use Rattle.books.specs.Nesting.{balanced, deepest}
 use Rattle.books.specs.Stored.{code_held, rule_in, listed, rules_in}

@@ -6,9 +6,10 @@ use Rattle.std.proofs.lemmas.Bool.{and_parts, and_from}
 use Rattle.word.specs.Symbols.{Symbol}
 use Rattle.expr.specs.declared.code.Code.{Code}
 use Rattle.expr.specs.Values.{Env, Verdict, passes, fails, faults, guard}
-use Rattle.rules.specs.Rules.{Rule, names_at}
+use Rattle.book.specs.Rules.{Rule, names_at}
 use Rattle.books.specs.declared.rule.Rule.{Rule as StoredRule}
-use Rattle.books.specs.Winners.{not_false, candidate, says, decides, winner}
+use Rattle.book.specs.Winners.{not_false, says, decides, winner}
+use Rattle.book.specs.Winners.{candidate}
 use Rattle.books.specs.Outcomes.{Outcome, fault, successor, by_verdict, by_rule, becomes}
 use Rattle.books.specs.Kept.{within}
 

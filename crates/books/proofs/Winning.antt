@@ -1,13 +1,15 @@
 -- The label of a book.
-use Rattle.std.proofs.Common.{◌≡◌, ℕ, ◌+◌, ◌<◌, Bool, true, false, cond, ◌&&◌, eqb, ltb, ◌⊎◌, List, [], ◌∷◌, is_some, Some, None, Option, sym, refl, ◌∙◌, subst, inl, inr, arith}
-use Rattle.std.proofs.lemmas.Bool.{both_ways, ltb-true, eqb-true, and_parts, or_cases}
+use Rattle.std.proofs.Common.{◌≡◌, ℕ, Bool, true, false, cond, ◌⊎◌, List, [], ◌∷◌, Some, None, Option, sym, refl, ◌∙◌, subst, inl, inr, arith}
+use Rattle.std.proofs.lemmas.Bool.{both_ways, and_parts}
 use Rattle.word.specs.Symbols.{Symbol}
-use Rattle.rules.specs.Rules.{Form, Rule}
-use Rattle.books.specs.Books.{rank, rank_of, precedes}
+use Rattle.book.specs.Rules.{Rule}
+use Rattle.book.specs.Books.{precedes}
 use Rattle.books.specs.Loading.{Among}
-use Rattle.books.specs.Winners.{first, decides}
-use Rattle.books.specs.Label.{counted, neighbours, GrowsBefore, Label}
+use Rattle.book.specs.Winners.{first, decides}
+use Rattle.book.specs.Label.{GrowsBefore}
+use Rattle.books.specs.Label.{Label}
 use Rattle.books.specs.Kept.{leads, ascending}
+use Rattle.book.proofs.Winning.{in_words}
 use Rattle.books.proofs.Sorting.{leads_all}
 
 -- the first of some rules that passes a test
@@ -40,57 +42,6 @@ first_leads p (w ∷ ws) s u v e h k = go (p w) refl e h (first_leads p ws q.1 u
     go true j t (inr i) ih = let same : w ≡ u = cc in inr (subst (λ (y : Rule). precedes y v ≡ true) same (leads_all w ws q.0 v i))
     go false j t (inl i) ih = absurd (both_ways (p v) (subst (λ (y : Rule). p y ≡ false) (sym i) j) k)
     go false j t (inr i) ih = ih t i k
-
--- the rank, in the label's words
-apart_ranks : (a b c d : Option Form) → rank a b < rank c d → (counted c + counted d < counted a + counted b) ⊎ ((counted a + counted b ≡ counted c + counted d) × (is_some a ≡ true) × (is_some c ≡ false))
-apart_ranks (Some a) (Some b) (Some c) (Some d) h = absurd (omega arith)
-apart_ranks (Some a) (Some b) (Some c) None h = inl (omega arith)
-apart_ranks (Some a) (Some b) None (Some d) h = inl (omega arith)
-apart_ranks (Some a) (Some b) None None h = inl (omega arith)
-apart_ranks (Some a) None (Some c) (Some d) h = absurd (omega arith)
-apart_ranks (Some a) None (Some c) None h = absurd (omega arith)
-apart_ranks (Some a) None None (Some d) h = inr (refl, refl, refl)
-apart_ranks (Some a) None None None h = inl (omega arith)
-apart_ranks None (Some b) (Some c) (Some d) h = absurd (omega arith)
-apart_ranks None (Some b) (Some c) None h = absurd (omega arith)
-apart_ranks None (Some b) None (Some d) h = absurd (omega arith)
-apart_ranks None (Some b) None None h = inl (omega arith)
-apart_ranks None None (Some c) (Some d) h = absurd (omega arith)
-apart_ranks None None (Some c) None h = absurd (omega arith)
-apart_ranks None None None (Some d) h = absurd (omega arith)
-apart_ranks None None None None h = absurd (omega arith)
-
-same_ranks : (a b c d : Option Form) → rank a b ≡ rank c d → (counted a + counted b ≡ counted c + counted d) × (is_some a ≡ is_some c)
-same_ranks (Some a) (Some b) (Some c) (Some d) h = (refl, refl)
-same_ranks (Some a) (Some b) (Some c) None h = absurd (omega arith)
-same_ranks (Some a) (Some b) None (Some d) h = absurd (omega arith)
-same_ranks (Some a) (Some b) None None h = absurd (omega arith)
-same_ranks (Some a) None (Some c) (Some d) h = absurd (omega arith)
-same_ranks (Some a) None (Some c) None h = (refl, refl)
-same_ranks (Some a) None None (Some d) h = absurd (omega arith)
-same_ranks (Some a) None None None h = absurd (omega arith)
-same_ranks None (Some b) (Some c) (Some d) h = absurd (omega arith)
-same_ranks None (Some b) (Some c) None h = absurd (omega arith)
-same_ranks None (Some b) None (Some d) h = (refl, refl)
-same_ranks None (Some b) None None h = absurd (omega arith)
-same_ranks None None (Some c) (Some d) h = absurd (omega arith)
-same_ranks None None (Some c) None h = absurd (omega arith)
-same_ranks None None None (Some d) h = absurd (omega arith)
-same_ranks None None None None h = (refl, refl)
-
-in_words : (u v : Rule) → precedes u v ≡ true → GrowsBefore u v
-in_words u v h = go (or_cases (ltb (rank_of u) (rank_of v)) (eqb (rank_of u) (rank_of v) && ltb u.number v.number) h)
-  where
-    wide : (neighbours v < neighbours u) ⊎ ((neighbours u ≡ neighbours v) × (is_some u.before ≡ true) × (is_some v.before ≡ false)) → GrowsBefore u v
-    wide (inl x) = inl x
-    wide (inr x) = inr (inl x)
-
-    go : (ltb (rank_of u) (rank_of v) ≡ true) ⊎ ((eqb (rank_of u) (rank_of v) && ltb u.number v.number) ≡ true) → GrowsBefore u v
-    go (inl l) = wide (apart_ranks u.before u.behind v.before v.behind (ltb-true (rank_of u) (rank_of v) l))
-    go (inr e) =
-        let p = and_parts (eqb (rank_of u) (rank_of v)) (ltb u.number v.number) e in
-        let s = same_ranks u.before u.behind v.before v.behind (eqb-true (rank_of u) (rank_of v) p.0) in
-        inr (inr (s.0, s.1, ltb-true u.number v.number p.1))
 
 pub label : (us : List Rule) → ascending us ≡ true → (l : Option Symbol) (s : Symbol) (r : Option Symbol) → Label us l s r
 label us a l s r = record {

@@ -1,6 +1,6 @@
 -- The book that a record holds.
 use Rattle.books.specs.declared.contents.Contents.{Contents}
-use Rattle.books.specs.Books.{Book}
+use Rattle.book.specs.Books.{Book}
 use Rattle.books.specs.Stored.{code_held, listed, rules_in, ignored_in}
 
 abbrev pub book_in : Contents → Book

@@ -1,8 +1,8 @@
 -- What the records of a book keep. Internal.
 use Rattle.std.specs.Prelude.{ℕ, ◌+◌, Bool, true, ◌&&◌, List, [], ◌∷◌, nat_le}
-use Rattle.rules.specs.Rules.{Rule}
+use Rattle.book.specs.Rules.{Rule}
 use Rattle.books.specs.declared.rule.Rule.{Rule as StoredRule}
-use Rattle.books.specs.Books.{precedes}
+use Rattle.book.specs.Books.{precedes}
 
 -- the code of each rule lies within the first n places
 abbrev pub within : ℕ → List StoredRule → Bool

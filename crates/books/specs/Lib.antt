@@ -1,6 +1,6 @@
-pub mod Books
+pub mod Refused
 pub mod Loading
-pub mod Winners
+pub mod Ahead
 pub mod Nesting
 pub mod Outcomes
 pub mod Label
@@ -13,4 +13,3 @@ pub mod Kinds
 pub mod Few
 pub mod Grown
 pub mod Trying
-pub mod Examples

@@ -1,9 +1,11 @@
 -- Loading: what a book answers to a line, and what it holds after any list of lines.
 use Rattle.std.specs.Prelude.{◌≡◌, ℕ, zero, suc, ◌<◌, ◌≤◌, true, cond, ◌⊎◌, List, [], ◌∷◌, length, ◌==◌}
 use Rattle.word.specs.Symbols.{among}
-use Rattle.rules.specs.Rules.{Rule, Entry, rule, ignores}
+use Rattle.book.specs.Rules.{Rule}
+use Rattle.book.specs.Books.{Entry, rule, ignores}
 use Rattle.lines.specs.Reading.{Says, Unspelt}
-use Rattle.books.specs.Books.{Book, empty, with_entry, refused}
+use Rattle.book.specs.Books.{Book, empty, with_entry}
+use Rattle.books.specs.Refused.{refused}
 
 -- a line is taken: it is short and by the grammar, nothing speaks against what it says, and the book has that from now on
 pub record Taken (bytes : List ℕ) (b b' : Book) : Type 0 where

@@ -2,9 +2,9 @@
 use Rattle.std.specs.Prelude.{ℕ, suc, Bool, false, cond, ◌&&◌, ◌||◌, List, [], ◌∷◌, ◌==◌, nat_lt}
 use Rattle.std.specs.Option.{option_map}
 use Rattle.rules.specs.declared.head.Head.{Head}
-use Rattle.rules.specs.Records.{form_of}
+use Rattle.book.specs.Records.{form_of}
 use Rattle.books.specs.declared.rule.Rule.{Rule}
-use Rattle.books.specs.Books.{rank}
+use Rattle.book.specs.Books.{rank}
 
 abbrev pub head_rank : Head → ℕ
 head_rank h = rank (option_map form_of h.before) (option_map form_of h.behind)

@@ -2,8 +2,8 @@
 use Rattle.std.specs.Prelude.{ℕ, List, [], ◌∷◌, Some, None, Option}
 use Rattle.word.specs.Symbols.{Symbol}
 use Rattle.expr.specs.Values.{Env, Verdict, passes, fails, faults, Arguments, made, spoilt, arguments}
-use Rattle.rules.specs.Rules.{Piece, Rule, names_at}
-use Rattle.books.specs.Winners.{says, winner}
+use Rattle.book.specs.Rules.{Piece, Rule, names_at}
+use Rattle.book.specs.Winners.{says, winner}
 
 -- a module stays as it is, grows to some modules, or ends the word by the cause of a fault
 pub data Outcome : Type 0 where

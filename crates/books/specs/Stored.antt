@@ -1,7 +1,7 @@
 -- What the records of a book mean.
 use Rattle.std.specs.Prelude.{ℕ, Bool, false, List, map, take, drop, slice_index_or}
 use Rattle.expr.specs.declared.code.Code.{Code}
-use Rattle.rules.specs.Rules.{Rule}
+use Rattle.book.specs.Rules.{Rule}
 use Rattle.rules.specs.Records.{rule_from}
 use Rattle.books.specs.declared.code_places.CodePlaces.{CodePlaces}
 use Rattle.books.specs.declared.rule.Rule.{Rule as StoredRule}

@@ -11,11 +11,11 @@ use Rattle.expr.specs.Codes.{decoded, latest}
 use Rattle.expr.specs.Machine.{cause_number}
 use Rattle.rules.specs.declared.piece.Piece.{Piece}
 use Rattle.rules.specs.declared.head.Head.{Head}
-use Rattle.rules.specs.Rules.{Rule, agrees, beside, given, given_beside}
-use Rattle.rules.specs.Records.{form_of}
+use Rattle.book.specs.Rules.{Rule, agrees, beside, given, given_beside}
+use Rattle.book.specs.Records.{form_of}
 use Rattle.books.specs.declared.modules.Modules.{Modules}
 use Rattle.books.specs.declared.outcome.Outcome.{Outcome as Answer}
-use Rattle.books.specs.Winners.{says, decides}
+use Rattle.book.specs.Winners.{says, decides}
 use Rattle.books.specs.Outcomes.{Outcome, itself, grown, fault, by_verdict}
 use Rattle.books.specs.Few.{symbols_in}
 use Rattle.books.specs.Grown.{outcome_of}

@@ -1,6 +1,6 @@
 // What a book holds, open or closed.
 ghost use Rattle.std.specs.Prelude.{◌≡◌, true, length};
-ghost use Rattle.books.specs.Books.{code_places};
+ghost use Rattle.books.specs.Refused.{code_places};
 ghost use Rattle.books.specs.Kept.{within, ascending};
 ghost use Rattle.books.specs.Stored.{code_held, listed, rules_in};
 

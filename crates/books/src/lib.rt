@@ -1,7 +1,5 @@
-// Books of rules.
+// Books that take lines.
 #![tactic(auto)]
-
-ghost use Rattle.books.specs.Examples.{Examples};
 
 pub mod closed_book;
 pub mod code_places;
@@ -13,8 +11,3 @@ pub mod open_book;
 pub mod outcome;
 pub mod rule;
 pub mod rule_list;
-
-/// The worked examples stand.
-pub fn examples_stand()
-    ensures { Examples }
-{}

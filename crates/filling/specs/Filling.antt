@@ -2,7 +2,7 @@
 use Rattle.std.specs.Prelude.{◌≡◌, ℕ, ◌⊎◌, List, [], ◌∷◌, Ok, Err, Result, ◌≢◌}
 use Rattle.rules.specs.Refusals.{refusal_number}
 use Rattle.books.specs.declared.closed_book.ClosedBook.{ClosedBook}
-use Rattle.books.specs.Books.{Book}
+use Rattle.book.specs.Books.{Book}
 use Rattle.books.specs.Loading.{Loads}
 use Rattle.books.specs.Kinds.{closed_book}
 use Rattle.filling.specs.declared.refusal.JobRefusal.{JobRefusal}

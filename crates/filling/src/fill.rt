@@ -1,5 +1,5 @@
 // Filling a book with the lines of a job.
-ghost use Rattle.books.specs.Books.{empty};
+ghost use Rattle.book.specs.Books.{empty};
 ghost use Rattle.job.specs.Jobs.{lines_of, numbered};
 ghost use Rattle.filling.specs.Filling.{Fills};
 

@@ -6,8 +6,8 @@ use Rattle.std.proofs.lemmas.Bool.Decides.{nat_tests}
 use Rattle.word.specs.declared.fault.Fault.{Fault}
 use Rattle.word.specs.Symbols.{Symbol, is_open, is_close, is_bracket}
 use Rattle.word.specs.Words.{Ending, Told, after, depth, nested}
-use Rattle.books.specs.Books.{Book}
-use Rattle.books.specs.Winners.{looks_ahead}
+use Rattle.book.specs.Books.{Book}
+use Rattle.books.specs.Ahead.{looks_ahead}
 use Rattle.generation.specs.Neighbours.{counts, right}
 use Rattle.generation.specs.Generations.{Part, adds, stops, found, added, worked, unless, followed, fault_of, there, left_of, right_of, settled, unsettled, outcome, outcomes}
 use Rattle.generation.specs.Stream.{Table, put, passed, Look, neighbour, closed, ended, spent, scan, turn_with, turn_by, turn, streamed, onward}

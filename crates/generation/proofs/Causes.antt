@@ -4,8 +4,8 @@ use Rattle.word.specs.Symbols.{Symbol, in_range}
 use Rattle.expr.specs.declared.code.Relation.{Relation}
 use Rattle.expr.specs.Values.{Expr, number, name, minus, plus, less, times, over, Value, is, wrong, Env, ranged, quotient, divided, both, negated, value, compared, Comparison, Verdict, passes, fails, faults, judged, then, guard, Arguments, made, spoilt, arguments}
 use Rattle.expr.specs.Values as values
-use Rattle.rules.specs.Rules.{Piece, Rule, names_at}
-use Rattle.books.specs.Winners.{says, winner}
+use Rattle.book.specs.Rules.{Piece, Rule, names_at}
+use Rattle.book.specs.Winners.{says, winner}
 use Rattle.books.specs.Outcomes.{Outcome, itself, grown, fault, with_first, successor, by_verdict, by_rule, becomes}
 
 -- of a value, a verdict, arguments and an outcome

@@ -4,8 +4,8 @@ use Rattle.std.proofs.lemmas.Bool.{and_parts, and_from, leb-true, le-leb, eqb-tr
 use Rattle.std.proofs.lemmas.Bool.Decides.{nat_tests}
 use Rattle.word.specs.Symbols.{Symbol, is_close, is_bracket, valid}
 use Rattle.word.specs.Words.{Ending, clean, broken, Told, after, all_valid, nested, in_bounds}
-use Rattle.books.specs.Books.{Book}
-use Rattle.books.specs.Winners.{looks_ahead}
+use Rattle.book.specs.Books.{Book}
+use Rattle.books.specs.Ahead.{looks_ahead}
 use Rattle.books.specs.Outcomes.{Outcome, itself, grown, fault, becomes}
 use Rattle.books.specs.Nesting.{balanced, deepest}
 use Rattle.generation.specs.Generations.{next, Part, adds, stops, found, added, worked, unless, followed, fault_of, generated}

@@ -5,7 +5,7 @@ use Rattle.word.specs.declared.module.Module.{Module}
 use Rattle.word.specs.Symbols.{Symbol, is_bracket}
 use Rattle.word.specs.Words.{Ending, Told, Meaning}
 use Rattle.word.specs.Records.{symbol_of}
-use Rattle.books.specs.Winners.{looks_ahead}
+use Rattle.books.specs.Ahead.{looks_ahead}
 use Rattle.books.specs.Kinds.{closed_book}
 use Rattle.generation.specs.declared.right.Right.{Right}
 use Rattle.generation.specs.declared.right.Right.TheVariants.{Neighbour, Missing, TooFar, Broken}

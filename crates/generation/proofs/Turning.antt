@@ -7,8 +7,8 @@ use Rattle.std.proofs.lemmas.Bool.{eq-eqb, ne_eqb, cases_eq, cond-true, cond-fal
 use Rattle.word.specs.declared.fault.Fault.{Fault}
 use Rattle.word.specs.Symbols.{Symbol, is_open, is_close, is_bracket}
 use Rattle.word.specs.Words.{Ending, broken, Told, after}
-use Rattle.books.specs.Books.{Book}
-use Rattle.books.specs.Winners.{looks_ahead}
+use Rattle.book.specs.Books.{Book}
+use Rattle.books.specs.Ahead.{looks_ahead}
 use Rattle.generation.specs.Generations.{Part, adds, stops, added, followed}
 use Rattle.generation.specs.Stream.{Table, put, shown, passed, Look, neighbour, closed, scan, turn_with, turn_by, turn, streamed, onward}
 

@@ -3,8 +3,9 @@ use Rattle.std.proofs.Common.{◌≡◌, Bool, true, false, cond, ◌&&◌, ◌�
 use Rattle.std.proofs.lemmas.Bool.{or_parts, and_cases, true≢false}
 use Rattle.word.specs.Symbols.{Symbol}
 use Rattle.expr.specs.Values.{Env, Verdict, passes, fails, faults, guard}
-use Rattle.rules.specs.Rules.{Form, Rule, agrees, beside, given, given_beside, names_at}
-use Rattle.books.specs.Winners.{not_false, says, decides, winner, looks_right, looks_ahead}
+use Rattle.book.specs.Rules.{Form, Rule, agrees, beside, given, given_beside, names_at}
+use Rattle.book.specs.Winners.{not_false, says, decides, winner}
+use Rattle.books.specs.Ahead.{looks_right, looks_ahead}
 use Rattle.books.specs.Outcomes.{Outcome, successor, by_verdict, by_rule, becomes}
 
 is_none : {A : Type 0} (o : Option A) → is_some o ≡ false → o ≡ None

@@ -1,7 +1,7 @@
 -- A generation module by module is the generation by positions. Internal.
 use Rattle.std.specs.Prelude.{◌≡◌, None}
 use Rattle.word.specs.Words.{Meaning, Lawful}
-use Rattle.books.specs.Books.{Book}
+use Rattle.book.specs.Books.{Book}
 use Rattle.generation.specs.Generations.{generated}
 use Rattle.generation.specs.Stream.{streamed}
 

@@ -15,8 +15,8 @@ use Rattle.std.specs.List.{slice_get}
 use Rattle.word.specs.declared.fault.Fault.{Fault}
 use Rattle.word.specs.Symbols.{Symbol, is_bracket}
 use Rattle.word.specs.Words.{Ending, clean, broken, Told, Meaning, depth}
-use Rattle.books.specs.Books.{Book}
-use Rattle.books.specs.Winners.{looks_ahead}
+use Rattle.book.specs.Books.{Book}
+use Rattle.books.specs.Ahead.{looks_ahead}
 use Rattle.books.specs.Outcomes.{Outcome, itself, grown, fault, becomes}
 use Rattle.books.specs.Nesting.{deepest}
 use Rattle.generation.specs.Neighbours.{least, left, right, settles}

@@ -5,8 +5,9 @@ use Rattle.word.specs.Symbols.{Symbol}
 use Rattle.word.specs.Words.{Ending, clean, broken, Told, Meaning}
 use Rattle.expr.specs.declared.code.Relation.TheVariants.{Less}
 use Rattle.expr.specs.Values.{Expr, number, name, plus, less, times, over, Comparison}
-use Rattle.rules.specs.Rules.{Form, Piece, Entry, rule, ignores}
-use Rattle.books.specs.Books.{Book, empty, loaded}
+use Rattle.book.specs.Rules.{Form, Piece}
+use Rattle.book.specs.Books.{Entry, rule, ignores}
+use Rattle.book.specs.Books.{Book, empty, loaded}
 use Rattle.generation.specs.Generations.{outcomes, generated}
 
 -- modules from text: letters and brackets without parameters, or one letter with its parameters

@@ -2,7 +2,7 @@
 use Rattle.std.specs.Prelude.{◌≡◌, ℕ, ◌+◌, ◌≤◌, true, List, length, Option}
 use Rattle.word.specs.Symbols.{Symbol}
 use Rattle.word.specs.Words.{Told, Meaning, all_valid, nested, in_bounds, Lawful}
-use Rattle.books.specs.Books.{Book}
+use Rattle.book.specs.Books.{Book}
 use Rattle.books.specs.Outcomes.{grown, becomes}
 use Rattle.books.specs.Nesting.{balanced}
 use Rattle.generation.specs.Generations.{generated}

@@ -3,8 +3,8 @@ use Rattle.std.specs.Prelude.{ℕ, zero, suc, pred, ◌+◌, min, Bool, cond, no
 use Rattle.std.specs.Option.{option_map}
 use Rattle.word.specs.Symbols.{Symbol, is_open, is_close, is_bracket}
 use Rattle.word.specs.Words.{Ending, Told, after}
-use Rattle.books.specs.Books.{Book}
-use Rattle.books.specs.Winners.{looks_ahead}
+use Rattle.book.specs.Books.{Book}
+use Rattle.books.specs.Ahead.{looks_ahead}
 use Rattle.books.specs.Outcomes.{becomes}
 use Rattle.generation.specs.Neighbours.{counts}
 use Rattle.generation.specs.Generations.{Part, stops, found, added, worked, unless, followed, fault_of}

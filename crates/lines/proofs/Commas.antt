@@ -2,7 +2,7 @@
 use Rattle.std.proofs.Common.{◌≡◌, List, [], ◌∷◌, ◌++◌, map, sym, refl, ap, ◌∙◌, append_assoc, append-nil}
 use Rattle.tokens.specs.declared.token.Sign.TheVariants.{Comma, Closes}
 use Rattle.tokens.specs.Tokens.{Lexeme, sign}
-use Rattle.lines.specs.Grammar.{closing}
+use Rattle.book.specs.Grammar.{closing}
 
 abbrev pub commas : {A : Type 0} → (A → List Lexeme) → List A → List Lexeme
 commas f [] = []

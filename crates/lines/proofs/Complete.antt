@@ -4,7 +4,7 @@ use Rattle.tokens.specs.declared.token.Sign.TheVariants.{Plus, Minus, Times, Ove
 use Rattle.tokens.specs.Tokens.{Lexeme, name, sign}
 use Rattle.expr.specs.declared.code.Relation.{Relation}
 use Rattle.expr.specs.declared.code.Relation.TheVariants as relation
-use Rattle.lines.specs.Grammar.{Part, guard, sum, operand, relation_sign, Tree, digits, named, group, plain, negated, one_factor, times, over, one_product, plus, less, compared, one_comparison, also, spells, Glyph, small, high, cross, dash, ampersand, slash, glyph, closing, within, FormTree, spells_form, PieceTree, branches, rejoins, grown, spells_pieces, spells_before, spells_behind, spells_guarded, LineTree, ignoring, ruling, spells_line}
+use Rattle.book.specs.Grammar.{Part, guard, sum, operand, relation_sign, Tree, digits, named, group, plain, negated, one_factor, times, over, one_product, plus, less, compared, one_comparison, also, spells, Glyph, small, high, cross, dash, ampersand, slash, glyph, closing, within, FormTree, spells_form, PieceTree, branches, rejoins, grown, spells_pieces, spells_before, spells_behind, spells_guarded, LineTree, ignoring, ruling, spells_line}
 use Rattle.lines.specs.Fits.{is_glyph, Which, first, middle, last, Side, former, latter, argument, Place, begins, numbered, ignores, form_due, formed, framed, name_read, due, bare, read, pieces, lettered, lost, counted, fits, start, finish}
 
 pub counts : (ds : List ℕ) (p : Place) → length ds ≤ 7 → counted ds p ≡ p

@@ -10,11 +10,11 @@ use Rattle.tokens.specs.declared.token.Token.{Token}
 use Rattle.tokens.specs.declared.token.Token.TheVariants.{Number, Name, Sign as Mark, End}
 use Rattle.tokens.specs.Tokens.{Lexeme, number, name, sign, sign_of, tokens}
 use Rattle.tokens.specs.Readers.{means, Formed, first_sign, rest}
-use Rattle.rules.specs.declared.form.Form.{Form as StoredForm}
+use Rattle.book.specs.declared.form.Form.{Form as StoredForm}
 use Rattle.rules.specs.declared.refusal.Refusal.{Refusal}
-use Rattle.rules.specs.Forms.{fits as fits-name}
-use Rattle.rules.specs.Records.{form_of}
-use Rattle.lines.specs.Grammar.{glyph, within, spells_form}
+use Rattle.book.specs.Forms.{fits as fits-name}
+use Rattle.book.specs.Records.{form_of}
+use Rattle.book.specs.Grammar.{glyph, within, spells_form}
 use Rattle.lines.specs.Fits.{is, starts_glyph, Which, first, middle, last, begins, numbered as numbered-place, ignores, form_due, formed, framed, name_due, name_read, lost, on, named_on, fits}
 use Rattle.lines.specs.Parts.{TookLetter, TookNames, TookForm, TookSides, TookBehind, TookNumber}
 use Rattle.lines.specs.Parsing.{Read}

@@ -9,8 +9,8 @@ use Rattle.tokens.specs.declared.token.Token.{Token}
 use Rattle.tokens.specs.declared.token.Token.TheVariants.{Number, Name, Sign as Mark, End}
 use Rattle.tokens.specs.Tokens.{Lexeme, sign, is_name, letter_only, lone, paired, sign_of, tokens}
 use Rattle.tokens.specs.Readers.{means, Formed}
-use Rattle.lines.specs.Grammar.{Glyph, small, high, cross, dash, ampersand, slash, glyph}
-use Rattle.lines.specs.Meanings.{letter_of}
+use Rattle.book.specs.Grammar.{Glyph, small, high, cross, dash, ampersand, slash, glyph}
+use Rattle.book.specs.Meanings.{letter_of}
 use Rattle.lines.specs.Fits.{rank, Which, name_due, fits}
 use Rattle.lines.proofs.Signs.{never}
 

@@ -9,8 +9,8 @@ use Rattle.expr.specs.declared.code.Code.{Code}
 use Rattle.expr.specs.Codes.{code_of, codes_of}
 use Rattle.rules.specs.declared.piece.Piece.{Piece as StoredPiece}
 use Rattle.rules.specs.Layout.{successor_code}
-use Rattle.lines.specs.Grammar.{sum, Tree, spells, glyph, closing, within, PieceTree, branches, rejoins, grown, spells_piece, spells_pieces}
-use Rattle.lines.specs.Meanings.{sense, piece_sense}
+use Rattle.book.specs.Grammar.{sum, Tree, spells, glyph, closing, within, PieceTree, branches, rejoins, grown, spells_piece, spells_pieces}
+use Rattle.book.specs.Meanings.{sense, piece_sense}
 use Rattle.lines.specs.Fits.{is, joins, is_glyph, is_bracket_sign, starts_glyph, argument, due, read, pieces, lettered, lost, piece_on, summed, fits}
 use Rattle.lines.specs.Parts.{Took, Lost, TookLetter, TookArguments, Outline, outlined, outline, TookPiece, TookPieces}
 use Rattle.lines.proofs.Complete.{follows, lettered_on}

@@ -9,12 +9,12 @@ use Rattle.expr.specs.declared.code.Relation.TheVariants as relation
 use Rattle.expr.specs.declared.code.Code.{Code}
 use Rattle.expr.specs.declared.code.Code.TheVariants.{Compare}
 use Rattle.rules.specs.declared.refusal.Refusal.{Refusal}
-use Rattle.lines.specs.Grammar.{guard, comparison, sum, relation_sign, compared, one_comparison, also, spells, spells_guarded}
-use Rattle.lines.specs.Meanings.{sense}
+use Rattle.book.specs.Grammar.{guard, comparison, sum, relation_sign, compared, one_comparison, also, spells, spells_guarded}
+use Rattle.book.specs.Meanings.{sense}
 use Rattle.lines.specs.Fits.{is, joins, compares, former, latter, due, read, pieces, lost, framed, last, fits}
 use Rattle.lines.specs.Parts.{part_code, Took, Stops, Lost, TookAsked, TookGuard}
 use Rattle.lines.specs.Parsing.{Read}
-use Rattle.lines.proofs.Unique.{one_more}
+use Rattle.book.proofs.Unique.{one_more}
 use Rattle.lines.proofs.Complete.{follows, comparing}
 use Rattle.lines.proofs.Signs.{never, headed, summed_on, framed_on}
 use Rattle.lines.proofs.Steps.{Onward, with_more, lost_after}

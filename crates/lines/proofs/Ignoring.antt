@@ -3,9 +3,10 @@ use Rattle.std.proofs.Common.{◌≡◌, ℕ, suc, ◌+◌, true, false, cond, L
 use Rattle.std.proofs.lemmas.Bool.{both_ways}
 use Rattle.tokens.specs.declared.token.Sign.TheVariants.{Ignores}
 use Rattle.tokens.specs.Tokens.{Lexeme, sign, tokens}
-use Rattle.rules.specs.Rules.{Rule, rule, ignores as ignored}
-use Rattle.lines.specs.Grammar.{Glyph, glyph, RuleTree, ignoring, ruling, spells_line}
-use Rattle.lines.specs.Meanings.{letter_of, rule_sense}
+use Rattle.book.specs.Rules.{Rule}
+use Rattle.book.specs.Books.{rule, ignores as ignored}
+use Rattle.book.specs.Grammar.{Glyph, glyph, RuleTree, ignoring, ruling, spells_line}
+use Rattle.book.specs.Meanings.{letter_of, rule_sense}
 use Rattle.lines.specs.Reading.{Says, Unspelt}
 use Rattle.lines.specs.Fits.{starts_glyph, begins, ignores, lost, fits}
 use Rattle.lines.specs.Parts.{TookLetter, TookLetters}

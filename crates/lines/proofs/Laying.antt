@@ -9,11 +9,11 @@ use Rattle.expr.specs.Codes.{code_of, codes_of, comparisons_code, decoded, compa
 use Rattle.expr.proofs.Examples.{on, laid, reads_back}
 use Rattle.rules.specs.declared.head.Head.{Head}
 use Rattle.rules.specs.declared.piece.Piece.{Piece as StoredPiece}
-use Rattle.rules.specs.Rules.{Piece}
+use Rattle.book.specs.Rules.{Piece}
 use Rattle.rules.specs.Layout.{successor_code, rule_code}
 use Rattle.rules.specs.Records.{pieces_from, rule_from, places_in}
-use Rattle.lines.specs.Grammar.{guard, Tree, spells_form, spells_pieces, RuleTree, spells_before, spells_behind, spells_guarded, ruling, spells_line}
-use Rattle.lines.specs.Meanings.{piece_sense, guard_sense, rule_sense}
+use Rattle.book.specs.Grammar.{guard, Tree, spells_form, spells_pieces, RuleTree, spells_before, spells_behind, spells_guarded, ruling, spells_line}
+use Rattle.book.specs.Meanings.{piece_sense, guard_sense, rule_sense}
 use Rattle.lines.specs.Parts.{TookHead, TookGuard, outlined, outline, TookPieces}
 use Rattle.lines.proofs.Room.{short}
 

@@ -1,5 +1,3 @@
-pub mod Unique
-pub mod Recovered
 pub mod Complete
 pub mod Room
 pub mod Signs

@@ -5,10 +5,10 @@ use Rattle.expr.specs.declared.code.Code.{Code}
 use Rattle.expr.specs.Codes.{comparisons_code}
 use Rattle.rules.specs.Records.{pushed}
 use Rattle.tokens.specs.Tokens.{Lexeme}
-use Rattle.lines.specs.Grammar.{Part, comparison, Tree, digits, named, group, plain, negated, one_factor, times, over, one_product, plus, less, compared, one_comparison, also, spells}
-use Rattle.lines.specs.Meanings.{sense}
+use Rattle.book.specs.Grammar.{Part, comparison, Tree, digits, named, group, plain, negated, one_factor, times, over, one_product, plus, less, compared, one_comparison, also, spells}
+use Rattle.book.specs.Meanings.{sense}
 use Rattle.lines.specs.Parts.{part_code, Took}
-use Rattle.lines.proofs.Unique.{one_more}
+use Rattle.book.proofs.Unique.{one_more}
 
 -- a row that is not full takes one more
 pub one_pushed : {A : Type 0} (x : A) (xs : List A) → length xs < 200 → pushed x xs ≡ xs ++ (x ∷ [])

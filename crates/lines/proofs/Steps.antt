@@ -14,8 +14,8 @@ use Rattle.expr.specs.declared.code.Code.{Code}
 use Rattle.expr.specs.declared.code.Code.TheVariants.{Number, Name, Negate}
 use Rattle.rules.specs.declared.refusal.Refusal.{Refusal}
 use Rattle.rules.specs.declared.refusal.Refusal.TheVariants.{NotByGrammar}
-use Rattle.lines.specs.Grammar.{Part, sum, product, factor, operand, Tree, digits, named, group, plain, negated, one_factor, times, over, one_product, plus, less, spells}
-use Rattle.lines.specs.Meanings.{sense}
+use Rattle.book.specs.Grammar.{Part, sum, product, factor, operand, Tree, digits, named, group, plain, negated, one_factor, times, over, one_product, plus, less, spells}
+use Rattle.book.specs.Meanings.{sense}
 use Rattle.lines.specs.Fits.{is, joins, Side, Place, due, bare, read, lost, counted, fits, start, finish}
 use Rattle.lines.specs.Parts.{Multiplying, by_times, by_over, Adding, by_plus, by_minus, part_code, Took, Lost}
 use Rattle.lines.specs.Parsing.{Read}

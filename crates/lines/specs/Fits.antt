@@ -3,7 +3,7 @@ use Rattle.std.specs.Prelude.{ℕ, zero, suc, Bool, true, false, cond, ◌||◌,
 use Rattle.tokens.specs.declared.token.Sign.{Sign}
 use Rattle.tokens.specs.declared.token.Sign.TheVariants.{Letter, Plus, Minus, Times, Over, Opens, Closes, Less, AtMost, Equal, Unequal, AtLeast, More, Also, Arrow, Comma, Colon, Asks, Ignores, Branches, Rejoins, Stray}
 use Rattle.tokens.specs.Tokens.{Lexeme, number, name, sign}
-use Rattle.lines.specs.Grammar.{Part, guard, comparison, sum, product, factor, operand}
+use Rattle.book.specs.Grammar.{Part, guard, comparison, sum, product, factor, operand}
 
 abbrev pub rank : Sign → ℕ
 rank (Letter c) = 0

@@ -1,7 +1,3 @@
-pub mod Grammar
-pub mod Meanings
-pub mod OneMeaning
-pub mod Examples
 pub mod Records
 pub mod Reading
 pub mod Fits

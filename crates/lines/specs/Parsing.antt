@@ -6,7 +6,7 @@ use Rattle.tokens.specs.Tokens.{Lexeme, name, sign, is_name}
 use Rattle.tokens.specs.Readers.{unread, first_sign}
 use Rattle.expr.specs.declared.code.Code.{Code}
 use Rattle.rules.specs.declared.draft.Draft.{Draft}
-use Rattle.rules.specs.declared.form.Form.{Form}
+use Rattle.book.specs.declared.form.Form.{Form}
 use Rattle.rules.specs.declared.head.Head.{Head}
 use Rattle.rules.specs.declared.piece.Piece.{Piece}
 use Rattle.rules.specs.declared.pieces.Pieces.{Pieces}
@@ -16,8 +16,8 @@ use Rattle.rules.specs.Records.{code_in, pieces_in}
 use Rattle.rules.specs.Drafts.{rule_of}
 use Rattle.lines.specs.declared.letters.Letters.{Letters}
 use Rattle.lines.specs.declared.parser.Parser.{Parser}
-use Rattle.lines.specs.Grammar.{Part, RuleTree, ruling, spells_line}
-use Rattle.lines.specs.Meanings.{rule_sense}
+use Rattle.book.specs.Grammar.{Part, RuleTree, ruling, spells_line}
+use Rattle.book.specs.Meanings.{rule_sense}
 use Rattle.lines.specs.Records.{letters_in}
 use Rattle.lines.specs.Fits.{is, starts_glyph, Which, first, middle, last, begins, ignores, form_due, framed, name_due, pieces, lettered, fits}
 use Rattle.lines.specs.Parts.{Took, Stops, Lost, TookLetter, TookNames, TookForm, TookSides, TookBehind, TookNumber, TookHead, TookAsked, TookGuard, TookArguments, TookPiece, TookPieces, TookLetters}

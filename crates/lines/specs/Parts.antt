@@ -10,14 +10,14 @@ use Rattle.tokens.specs.Readers.{first_sign, rest}
 use Rattle.expr.specs.declared.code.Code.{Code}
 use Rattle.expr.specs.declared.code.Code.TheVariants.{Add, Subtract, Multiply, Divide, Compare}
 use Rattle.expr.specs.Codes.{code_of, codes_of, comparisons_code}
-use Rattle.rules.specs.declared.form.Form.{Form as StoredForm}
+use Rattle.book.specs.declared.form.Form.{Form as StoredForm}
 use Rattle.rules.specs.declared.head.Head.{Head}
 use Rattle.rules.specs.declared.piece.Piece.{Piece as StoredPiece}
-use Rattle.rules.specs.Rules.{Piece}
+use Rattle.book.specs.Rules.{Piece}
 use Rattle.rules.specs.Layout.{successor_code}
-use Rattle.rules.specs.Records.{form_of}
-use Rattle.lines.specs.Grammar.{Part, guard, comparison, sum, product, factor, operand, Tree, spells, Glyph, glyph, within, FormTree, spells_form, PieceTree, spells_piece, spells_pieces, spells_before, spells_behind, spells_guarded}
-use Rattle.lines.specs.Meanings.{letter_of, Sense, sense, form_sense, piece_sense, guard_sense}
+use Rattle.book.specs.Records.{form_of}
+use Rattle.book.specs.Grammar.{Part, guard, comparison, sum, product, factor, operand, Tree, spells, Glyph, glyph, within, FormTree, spells_form, PieceTree, spells_piece, spells_pieces, spells_before, spells_behind, spells_guarded}
+use Rattle.book.specs.Meanings.{letter_of, Sense, sense, form_sense, piece_sense, guard_sense}
 use Rattle.lines.specs.Fits.{is, multiplies, joins, Which, first, middle, last, Side, begins, ignores, form_due, framed, name_due, pieces, lettered, lost, fits, start}
 
 -- the signs that join factors, and products, with their code

@@ -3,10 +3,10 @@ use Rattle.std.specs.Prelude.{◌≡◌, ℕ, zero, suc, ◌<◌, ◌≤◌, Lis
 use Rattle.tokens.specs.Tokens.{tokens}
 use Rattle.rules.specs.declared.refusal.Refusal.{Refusal}
 use Rattle.rules.specs.Refusals.{refusal_number}
-use Rattle.rules.specs.Rules.{Entry}
+use Rattle.book.specs.Books.{Entry}
 use Rattle.lines.specs.declared.line.Line.{Line}
-use Rattle.lines.specs.Grammar.{LineTree, spells_line}
-use Rattle.lines.specs.Meanings.{line_sense}
+use Rattle.book.specs.Grammar.{LineTree, spells_line}
+use Rattle.book.specs.Meanings.{line_sense}
 use Rattle.lines.specs.Records.{entry_of}
 
 -- these bytes say e: a tree spells just their tokens, and means e

@@ -1,6 +1,6 @@
 -- What the records of the code mean.
 use Rattle.std.specs.Prelude.{ℕ, List, take}
-use Rattle.rules.specs.Rules.{Entry, rule, ignores}
+use Rattle.book.specs.Books.{Entry, rule, ignores}
 use Rattle.rules.specs.Drafts.{rule_of}
 use Rattle.lines.specs.declared.letters.Letters.{Letters}
 use Rattle.lines.specs.declared.line.Line.{Line}

@@ -3,9 +3,9 @@ use Rattle.std.proofs.Common.{◌≡◌, ℕ, zero, suc, ◌+◌, ◌≤◌, Boo
 use Rattle.std.proofs.lemmas.List.{take_all}
 use Rattle.std.proofs.lemmas.Bool.{lt-ltb}
 use Rattle.std.specs.Option.{option_map}
-use Rattle.rules.specs.declared.form.Form.{Form}
+use Rattle.book.specs.declared.form.Form.{Form}
 use Rattle.rules.specs.Places.{names_of}
-use Rattle.rules.specs.Records.{form_of}
+use Rattle.book.specs.Records.{form_of}
 
 abbrev if_counts : Bool → ℕ → List ℕ
 if_counts t x = cond t (x ∷ []) []

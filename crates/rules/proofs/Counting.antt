@@ -6,7 +6,7 @@ use Rattle.expr.specs.declared.code.Code.TheVariants.{Negate, Add, Subtract, Mul
 use Rattle.expr.specs.Values.{Expr, number, name, minus, plus, less, times, over, Comparison}
 use Rattle.expr.specs.Codes.{code_of, codes_of, comparisons_code}
 use Rattle.rules.specs.declared.draft.Draft.{Draft}
-use Rattle.rules.specs.Rules.{Piece, Rule}
+use Rattle.book.specs.Rules.{Piece, Rule}
 use Rattle.rules.specs.Layout.{successor_code, rule_code}
 use Rattle.rules.specs.Places.{places, compared_in, arguments_in, places_all, places_of}
 use Rattle.rules.specs.Records.{code_in}

@@ -5,7 +5,7 @@ use Rattle.std.proofs.lemmas.Bool.{and_left, and_right, ne_eqb, cond_both}
 use Rattle.word.specs.Symbols.{is_open, is_close}
 use Rattle.expr.specs.declared.code.Code.{Code}
 use Rattle.rules.specs.declared.piece.Piece.{Piece as StoredPiece}
-use Rattle.rules.specs.Rules.{Piece}
+use Rattle.book.specs.Rules.{Piece}
 use Rattle.rules.specs.Records.{pieces_from, bare}
 use Rattle.rules.specs.Wrong.{after, nests, deepest}
 

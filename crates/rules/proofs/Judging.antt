@@ -4,7 +4,7 @@ use mathlib.Core.Bool.{Bool-set}
 use Rattle.expr.specs.declared.code.Code.{Code}
 use Rattle.rules.specs.declared.draft.Draft.{Draft}
 use Rattle.rules.specs.declared.piece.Piece.{Piece as StoredPiece}
-use Rattle.rules.specs.Rules.{Rule}
+use Rattle.book.specs.Rules.{Rule}
 use Rattle.rules.specs.Places.{numbers, names, expressions, each, given_names}
 use Rattle.rules.specs.Records.{code_in, pieces_in, bare}
 use Rattle.rules.specs.Drafts.{rule_of}

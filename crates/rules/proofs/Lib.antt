@@ -1,7 +1,6 @@
 pub mod Collecting
 pub mod Counting
 pub mod Depths
-pub mod Giving
 pub mod Judging
 pub mod Picking
 pub mod Rows

@@ -4,7 +4,7 @@ use Rattle.expr.specs.declared.code.Code.{Code}
 use Rattle.expr.specs.declared.code.Code.TheVariants.{Blank, Number, Name, Negate, Add, Subtract, Multiply, Divide, Compare}
 use Rattle.expr.specs.Values.{Expr, number, name, minus, plus, less, times, over, Comparison}
 use Rattle.expr.specs.Codes.{code_of, codes_of, comparisons_code}
-use Rattle.rules.specs.Rules.{Piece, Rule}
+use Rattle.book.specs.Rules.{Piece, Rule}
 use Rattle.rules.specs.Layout.{successor_code, rule_code}
 use Rattle.rules.specs.Places.{leaves, compared_in, arguments_in, expressions, each}
 use Rattle.rules.specs.Picked.{given_by, picked}

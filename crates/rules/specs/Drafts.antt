@@ -1,6 +1,6 @@
 -- The rule of a draft.
 use Rattle.rules.specs.declared.draft.Draft.{Draft}
-use Rattle.rules.specs.Rules.{Rule}
+use Rattle.book.specs.Rules.{Rule}
 use Rattle.rules.specs.Records.{rule_from, code_in, pieces_in}
 
 abbrev pub rule_of : Draft → Rule

@@ -2,7 +2,7 @@
 use Rattle.std.specs.Prelude.{List, [], ◌∷◌, ◌++◌}
 use Rattle.expr.specs.declared.code.Code.{Code}
 use Rattle.expr.specs.Codes.{codes_of, comparisons_code}
-use Rattle.rules.specs.Rules.{Piece, Rule}
+use Rattle.book.specs.Rules.{Piece, Rule}
 
 abbrev pub successor_code : List Piece → List Code
 successor_code [] = []

@@ -1,5 +1,3 @@
-pub mod Rules
-pub mod Forms
 pub mod Records
 pub mod Layout
 pub mod Places

@@ -6,7 +6,7 @@ use Rattle.expr.specs.declared.code.Code.TheVariants.{Blank, Number, Name, Negat
 use Rattle.rules.specs.declared.given.Given.{Given}
 use Rattle.rules.specs.declared.head.Head.{Head}
 use Rattle.rules.specs.Places.{names_of}
-use Rattle.rules.specs.Records.{form_of}
+use Rattle.book.specs.Records.{form_of}
 
 -- what a place gives, where a number gives f and a name g
 abbrev pub given_by : (ℕ → List ℕ) → (ℕ → List ℕ) → Code → List ℕ

@@ -1,7 +1,7 @@
 -- The numbers, the names and the code places of a rule.
 use Rattle.std.specs.Prelude.{ℕ, suc, ◌+◌, List, [], ◌∷◌, ◌++◌, length, Some, None, Option}
 use Rattle.expr.specs.Values.{Expr, number, name, minus, plus, less, times, over, Comparison}
-use Rattle.rules.specs.Rules.{Form, Piece, Rule}
+use Rattle.book.specs.Rules.{Form, Piece, Rule}
 
 -- what the numbers and the names of an expression give, from left to right
 abbrev pub leaves : {A : Type 0} → (ℕ → List A) → (ℕ → List A) → Expr → List A

@@ -1,25 +1,14 @@
 -- What the records of the code mean.
-use Rattle.std.specs.Prelude.{◌≡◌, ℕ, ◌+◌, cond, List, [], ◌∷◌, ◌++◌, length, take, drop, nat_lt}
+use Rattle.std.specs.Prelude.{ℕ, ◌+◌, cond, List, [], ◌∷◌, ◌++◌, length, take, drop, nat_lt}
 use Rattle.std.specs.Option.{option_map}
 use Rattle.expr.specs.declared.code.Code.{Code}
 use Rattle.expr.specs.Codes.{decoded, comparisons, latest}
-use Rattle.rules.specs.declared.form.Form.{Form as StoredForm}
+use Rattle.book.specs.Records.{form_of}
 use Rattle.rules.specs.declared.head.Head.{Head}
 use Rattle.rules.specs.declared.piece.Piece.{Piece as StoredPiece}
 use Rattle.rules.specs.declared.codes.Codes.{Codes}
 use Rattle.rules.specs.declared.pieces.Pieces.{Pieces}
-use Rattle.rules.specs.Rules.{Form, Piece, Rule}
-
-abbrev pub form_of : StoredForm → Form
-form_of f = record { letter = f.letter; names = take f.count (f.a ∷ f.b ∷ f.c ∷ []) }
-
--- the record f has these parts
-pub record Holds (f : StoredForm) (letter count a b c : ℕ) : Type 0 where
-  pub letter_is : f.letter ≡ letter
-  pub count_is : f.count ≡ count
-  pub a_is : f.a ≡ a
-  pub b_is : f.b ≡ b
-  pub c_is : f.c ≡ c
+use Rattle.book.specs.Rules.{Piece, Rule}
 
 -- one more at the end of a row of at most 200
 abbrev pub pushed : {A : Type 0} → A → List A → List A

@@ -1,7 +1,7 @@
 -- What may be wrong with a rule by itself.
 use Rattle.std.specs.Prelude.{ℕ, suc, pred, max, Bool, false, cond, not, ◌&&◌, ◌||◌, List, [], ◌∷◌, length, ◌==◌, nat_le, nat_lt}
 use Rattle.word.specs.Symbols.{among, is_open, is_close}
-use Rattle.rules.specs.Rules.{Piece, Rule}
+use Rattle.book.specs.Rules.{Piece, Rule}
 use Rattle.rules.specs.Places.{numbers, names, expressions, each, given_names}
 
 -- one of some numbers is over 1,000,000

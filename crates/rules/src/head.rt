@@ -1,5 +1,5 @@
 // What stands before the guard of a rule.
-use super::form::Form;
+use book::form::Form;
 
 /// The printed number and the forms of a rule.
 #[derive(Clone, Copy)]

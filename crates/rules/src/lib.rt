@@ -3,7 +3,6 @@
 
 pub mod codes;
 pub mod draft;
-pub mod form;
 mod given;
 pub mod head;
 pub mod judge;

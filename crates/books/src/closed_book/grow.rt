@@ -1,7 +1,7 @@
 ghost use Rattle.std.specs.Prelude.{◌≡◌};
 ghost use Rattle.std.specs.Option.{option_map};
 ghost use Rattle.word.specs.Records.{symbol_of};
-ghost use Rattle.books.specs.Winners.{looks_ahead};
+ghost use Rattle.books.specs.Ahead.{looks_ahead};
 ghost use Rattle.books.specs.Outcomes.{becomes};
 ghost use Rattle.books.specs.Label.{Label};
 ghost use Rattle.books.specs.Contents.{book_in};

@@ -1,9 +1,10 @@
 ghost use Rattle.std.specs.Prelude.{◌≡◌, MatchResult};
-ghost use Rattle.rules.specs.Rules.{rule, ignores};
+ghost use Rattle.book.specs.Books.{rule, ignores};
 ghost use Rattle.rules.specs.Refusals.{answer_number};
 ghost use Rattle.rules.specs.Drafts.{rule_of};
 ghost use Rattle.rules.specs.Wrong.{wrong};
-ghost use Rattle.books.specs.Books.{empty, with_entry, no_place};
+ghost use Rattle.book.specs.Books.{empty, with_entry};
+ghost use Rattle.books.specs.Refused.{no_place};
 ghost use Rattle.books.specs.Contents.{book_in};
 
 use super::super::code_places::CodePlaces;

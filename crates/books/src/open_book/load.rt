@@ -1,8 +1,9 @@
 ghost use Rattle.std.specs.Prelude.{◌≡◌, MatchResult};
-ghost use Rattle.rules.specs.Rules.{rule};
+ghost use Rattle.book.specs.Books.{rule};
 ghost use Rattle.rules.specs.Refusals.{answer_number};
 ghost use Rattle.rules.specs.Drafts.{rule_of};
-ghost use Rattle.books.specs.Books.{empty, with_entry, refused};
+ghost use Rattle.book.specs.Books.{empty, with_entry};
+ghost use Rattle.books.specs.Refused.{refused};
 ghost use Rattle.books.specs.Loading.{Loads, Law};
 ghost use Rattle.books.specs.Kinds.{open_book, closed_book};
 

@@ -6,8 +6,8 @@ ghost use Rattle.expr.specs.Machine.{env_of};
 ghost use Rattle.books.specs.Trying.{head_fits, head_names, head_looks_right};
 
 use super::Rule;
+use book::form::fit::{beside, give_beside};
 use expr::names::Names;
-use rules::form::fit::{beside, give_beside};
 use rules::head::Head;
 use word::module::Module;
 

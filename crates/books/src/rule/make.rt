@@ -4,8 +4,8 @@ ghost use Rattle.rules.specs.Wrong.{nests};
 ghost use Rattle.books.specs.Making.{Made};
 
 use super::Rule;
+use book::form::Form;
 use rules::draft::Draft;
-use rules::form::Form;
 use rules::head::Head;
 use rules::nesting::deepest;
 use rules::piece::Piece;

@@ -3,13 +3,13 @@ ghost use Rattle.std.specs.Prelude.{◌≡◌, ◌+◌, ◌<◌, true, false, []
 ghost use Rattle.tokens.specs.declared.token.Sign.TheVariants.{Ignores};
 ghost use Rattle.tokens.specs.Tokens.{is_name};
 ghost use Rattle.tokens.specs.Readers.{unread, first_sign};
-ghost use Rattle.rules.specs.Records.{form_of};
+ghost use Rattle.book.specs.Records.{form_of};
 ghost use Rattle.lines.specs.Fits.{is};
 ghost use Rattle.lines.specs.Parsing.{ReadsNames, ReadsForm, ReadsSides, ReadsBehind, ReadsNumber, ReadsHead};
 
 use super::MOST;
 use super::single::{close, letter, name};
-use rules::form::Form;
+use book::form::Form;
 use rules::head::Head;
 use rules::refusal::Refusal;
 use tokens::reader::Reader;

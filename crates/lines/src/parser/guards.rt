@@ -1,6 +1,6 @@
 // Comparisons and guards.
 ghost use Rattle.std.specs.Prelude.{◌≡◌, false, MatchOption};
-ghost use Rattle.lines.specs.Grammar.{Part, relation_sign};
+ghost use Rattle.book.specs.Grammar.{Part, relation_sign};
 ghost use Rattle.lines.specs.Fits.{compares};
 ghost use Rattle.lines.specs.Parsing.{Roomy, ReadsPart, ReadsAsked, ReadsGuard};
 

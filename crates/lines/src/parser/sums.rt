@@ -1,6 +1,6 @@
 // Sums, products, factors and operands call one another; each call leaves less of the line unread.
 ghost use Rattle.std.specs.Prelude.{◌≡◌, false, MatchOption};
-ghost use Rattle.lines.specs.Grammar.{Part};
+ghost use Rattle.book.specs.Grammar.{Part};
 ghost use Rattle.lines.specs.Fits.{multiplies, adds};
 ghost use Rattle.lines.specs.Parts.{Multiplying, Adding};
 ghost use Rattle.lines.specs.Parsing.{Roomy, ReadsPart};

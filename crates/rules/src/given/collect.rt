@@ -1,12 +1,12 @@
 ghost use Rattle.std.specs.Prelude.{◌≡◌, ◌<◌, ◌≤◌, [], ◌∷◌, ◌++◌, length, if◌then◌else◌};
 ghost use Rattle.std.specs.Option.{option_map};
 ghost use Rattle.rules.specs.Places.{names_of};
-ghost use Rattle.rules.specs.Records.{form_of};
+ghost use Rattle.book.specs.Records.{form_of};
 ghost use Rattle.rules.specs.Picked.{held, head_names};
 
-use super::super::form::Form;
 use super::super::head::Head;
 use super::Given;
+use book::form::Form;
 
 impl Given {
     fn new() -> Given

@@ -1,5 +1,5 @@
 use Rattle.std.proofs.Common.{ℕ, length}
-use Rattle.books.specs.Books.{Book}
+use Rattle.book.specs.Books.{Book}
 use Rattle.books.specs.Kinds.{open_book}
 use Rattle.job.specs.Reading.{to_come}
 use Rattle.filling.specs.Filling.{TakesAll, StopsAt}

@@ -2,7 +2,7 @@ use Rattle.std.proofs.Common.{◌+◌, Bool, ◌||◌, List, length, drop, sym, 
 use Rattle.std.proofs.lemmas.List.{drop_all}
 use Rattle.word.specs.Records.{symbol_of}
 use Rattle.books.specs.declared.rule.Rule.{Rule as StoredRule}
-use Rattle.books.specs.Winners.{looks_ahead}
+use Rattle.books.specs.Ahead.{looks_ahead}
 use Rattle.books.specs.Stored.{code_held, listed, rules_in}
 use Rattle.books.specs.Trying.{head_looks_right}
 use Rattle.books.proofs.Rows.{item_in}

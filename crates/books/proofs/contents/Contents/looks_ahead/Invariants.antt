@@ -1,6 +1,6 @@
 use Rattle.std.proofs.Common.{◌≡◌, drop}
 use Rattle.word.specs.Records.{symbol_of}
-use Rattle.books.specs.Winners.{looks_ahead}
+use Rattle.books.specs.Ahead.{looks_ahead}
 use Rattle.books.specs.Stored.{code_held, listed, rules_in}
 use Rattle.books.proofs.contents.Contents.looks_ahead.Given as goal
 

@@ -1,13 +1,13 @@
 use Rattle.std.proofs.Common.{◌≡◌, ℕ, Bool, true, false, List, ◌++◌, length, drop, sym, refl, ap, ◌∙◌, arith}
 use lib.ListN.{length-map}
 use Rattle.expr.specs.declared.code.Code.{Code}
-use Rattle.rules.specs.Rules.{Rule}
+use Rattle.book.specs.Rules.{Rule}
 use Rattle.rules.specs.Records.{code_in, pieces_in}
 use Rattle.rules.specs.Drafts.{rule_of}
 use Rattle.rules.proofs.Counting.{draft_places}
 use Rattle.rules.proofs.Depths.{length_pieces, nests_bare}
 use Rattle.books.specs.declared.rule.Rule.{Rule as StoredRule}
-use Rattle.books.specs.Books.{holds_number}
+use Rattle.books.specs.Refused.{holds_number}
 use Rattle.books.specs.declared.contents.Contents.{Contents}
 use Rattle.books.specs.Contents.{book_in}
 use Rattle.books.specs.Stored.{code_held, listed, rule_in, ignored_in}

@@ -1,7 +1,7 @@
 use Rattle.std.proofs.Common.{sym, refl, ◌∙◌}
 use Rattle.rules.specs.Drafts.{rule_of}
 use Rattle.rules.proofs.Judging.{wrong_none, wrong_some}
-use Rattle.books.specs.Books.{no_place}
+use Rattle.books.specs.Refused.{no_place}
 use Rattle.books.specs.Kinds.{open_book}
 use Rattle.books.proofs.Answering.{some_number}
 use Rattle.books.proofs.open_book.OpenBook.add.Goals as goal

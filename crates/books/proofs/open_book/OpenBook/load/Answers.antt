@@ -1,9 +1,9 @@
 use Rattle.std.proofs.Common.{ℕ, List, refl, ap, ◌∙◌, subst}
-use Rattle.rules.specs.Rules.{rule, ignores}
+use Rattle.book.specs.Books.{rule, ignores}
 use Rattle.rules.specs.Drafts.{rule_of}
 use Rattle.lines.specs.Reading.{Says}
 use Rattle.lines.specs.Records.{entry_of, letters_in}
-use Rattle.books.specs.Books.{with_entry}
+use Rattle.book.specs.Books.{with_entry}
 use Rattle.books.specs.Kinds.{open_book}
 use Rattle.books.proofs.Answering.{taken_line, answered}
 use Rattle.books.proofs.open_book.OpenBook.load.Goals as goal

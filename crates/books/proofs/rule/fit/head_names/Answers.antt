@@ -1,7 +1,7 @@
 use Rattle.std.specs.Option.{option_map}
 use Rattle.word.specs.Records.{symbol_of}
 use Rattle.expr.specs.Machine.{env_of}
-use Rattle.rules.specs.Records.{form_of}
+use Rattle.book.specs.Records.{form_of}
 use Rattle.books.proofs.Growing.{all_named}
 use Rattle.books.proofs.rule.fit.head_names.Goals as goal
 

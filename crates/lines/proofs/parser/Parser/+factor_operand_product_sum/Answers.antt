@@ -4,7 +4,7 @@ use Rattle.tokens.specs.declared.token.Sign.TheVariants.{Minus, Opens}
 use Rattle.tokens.specs.Tokens.{sign}
 use Rattle.tokens.specs.Readers.{unread, rest}
 use Rattle.rules.specs.Records.{code_in}
-use Rattle.lines.specs.Grammar.{sum, product, factor, operand}
+use Rattle.book.specs.Grammar.{sum, product, factor, operand}
 use Rattle.lines.specs.Fits.{adds}
 use Rattle.lines.specs.Parts.{Took, Lost, Stops}
 use Rattle.lines.specs.Parsing.{left, laid, Read}

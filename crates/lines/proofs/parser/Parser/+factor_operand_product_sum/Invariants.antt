@@ -1,6 +1,6 @@
 use Rattle.std.proofs.Common.{◌+◌, ◌*◌, length}
 use Rattle.tokens.specs.Readers.{first_sign}
-use Rattle.lines.specs.Grammar.{sum, product}
+use Rattle.book.specs.Grammar.{sum, product}
 use Rattle.lines.specs.Parts.{Stops}
 use Rattle.lines.specs.Parsing.{left, laid}
 use Rattle.lines.proofs.Steps.{Onward}

@@ -1,7 +1,7 @@
 use Rattle.std.proofs.Common.{◌<◌, length, sym, refl, ap, ◌∙◌, subst, arith}
 use Rattle.tokens.specs.declared.token.Sign.TheVariants.{Opens, Comma}
 use Rattle.tokens.specs.Readers.{unread}
-use Rattle.lines.specs.Grammar.{sum}
+use Rattle.book.specs.Grammar.{sum}
 use Rattle.lines.specs.Parts.{Took, Lost}
 use Rattle.lines.specs.Parsing.{left, laid}
 use Rattle.lines.proofs.Room.{room}

@@ -1,7 +1,7 @@
 use Rattle.std.proofs.Common.{sym, refl, ◌∙◌, subst, arith}
 use Rattle.tokens.specs.declared.token.Sign.TheVariants.{Asks}
 use Rattle.tokens.specs.Readers.{first_sign}
-use Rattle.lines.specs.Grammar.{guard}
+use Rattle.book.specs.Grammar.{guard}
 use Rattle.lines.specs.Parts.{Took, Lost, Stops}
 use Rattle.lines.specs.Parsing.{left, laid, Read}
 use Rattle.lines.proofs.Signs.{unlike, headed}

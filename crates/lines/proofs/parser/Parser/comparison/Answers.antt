@@ -1,6 +1,6 @@
 use Rattle.std.proofs.Common.{◌≡◌, false, length, sym, refl, ap, ◌∙◌, subst, arith}
 use Rattle.rules.specs.Records.{code_in}
-use Rattle.lines.specs.Grammar.{sum}
+use Rattle.book.specs.Grammar.{sum}
 use Rattle.lines.specs.Fits.{compares}
 use Rattle.lines.specs.Parts.{Took, Lost}
 use Rattle.lines.specs.Parsing.{left, laid}

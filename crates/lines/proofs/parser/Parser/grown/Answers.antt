@@ -1,7 +1,7 @@
 use Rattle.std.proofs.Common.{◌-◌, map, length, refl, ap, ◌∙◌, arith, length-append}
 use Rattle.tokens.specs.Readers.{unread}
 use Rattle.expr.specs.Codes.{codes_of}
-use Rattle.lines.specs.Meanings.{sense}
+use Rattle.book.specs.Meanings.{sense}
 use Rattle.lines.specs.Parsing.{left, laid}
 use Rattle.lines.proofs.Steps.{refused}
 use Rattle.lines.proofs.Growing.{no_piece, read_grown}

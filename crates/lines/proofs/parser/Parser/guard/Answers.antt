@@ -1,6 +1,6 @@
 use Rattle.std.proofs.Common.{length, sym, refl, ap, ◌∙◌, subst, arith}
 use Rattle.tokens.specs.declared.token.Sign.TheVariants.{Also}
-use Rattle.lines.specs.Grammar.{guard, comparison}
+use Rattle.book.specs.Grammar.{guard, comparison}
 use Rattle.lines.specs.Parts.{Took, Lost}
 use Rattle.lines.specs.Parsing.{left, laid}
 use Rattle.lines.proofs.Room.{room}

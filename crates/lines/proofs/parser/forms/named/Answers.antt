@@ -2,7 +2,7 @@ use Rattle.std.proofs.Common.{◌≡◌, ℕ, true, ◌&&◌, eqb, [], ◌∷◌
 use Rattle.std.proofs.lemmas.Bool.{and_parts, and_from}
 use Rattle.word.specs.Symbols.{is_letter}
 use Rattle.tokens.specs.Tokens.{is_name}
-use Rattle.rules.specs.Forms.{sound}
+use Rattle.book.specs.Forms.{sound}
 use Rattle.lines.proofs.parser.forms.named.Goals as goal
 
 third : (letter a b c n : ℕ) → sound letter 2 a b c ≡ true → is_name n ≡ true → sound letter 3 a b n ≡ true

@@ -2,7 +2,7 @@ use Rattle.std.proofs.Common.{◌≡◌, true, ◌∷◌, get_or, sym, refl, ap,
 use Rattle.word.specs.Symbols.{is_letter}
 use Rattle.tokens.specs.Tokens.{sign}
 use Rattle.tokens.specs.Readers.{unread}
-use Rattle.lines.specs.Grammar.{small}
+use Rattle.book.specs.Grammar.{small}
 use Rattle.lines.proofs.Glyphs.{name_real, sign_real}
 use Rattle.lines.proofs.parser.single.letter.Goals as goal
 

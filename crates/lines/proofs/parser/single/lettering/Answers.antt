@@ -1,6 +1,6 @@
 use Rattle.std.proofs.Common.{refl, ap}
 use Rattle.tokens.specs.Tokens.{sign}
-use Rattle.lines.specs.Grammar.{high}
+use Rattle.book.specs.Grammar.{high}
 use Rattle.lines.proofs.parser.single.lettering.Goals as goal
 
 pub returns-in-Letter : goal.returns-in-Letter

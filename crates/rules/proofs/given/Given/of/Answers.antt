@@ -1,7 +1,7 @@
 use Rattle.std.proofs.Common.{ℕ, List, ◌++◌, ap, ◌∙◌, append_assoc}
 use Rattle.std.specs.Option.{option_map}
 use Rattle.rules.specs.Places.{names_of}
-use Rattle.rules.specs.Records.{form_of}
+use Rattle.book.specs.Records.{form_of}
 use Rattle.rules.specs.Picked.{held}
 use Rattle.rules.proofs.Collecting.{more_by, few_of_form, few_of_side}
 use Rattle.rules.proofs.given.Given.of.Goals as goal
