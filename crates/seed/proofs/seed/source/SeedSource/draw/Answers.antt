@@ -1,6 +1,7 @@
-use Rattle.std.proofs.Common.{◌≡◌, ℕ, ◌-◌, ◌≤◌, false, List, ◌∷◌, length, take, drop, sym, ap, ◌∙◌, subst, arith, length-drop, length-take}
+use Rattle.std.proofs.Common.{◌≡◌, ℕ, ◌-◌, false, List, ◌∷◌, length, take, drop, sym, ap, ◌∙◌, subst, arith, length-drop, length-take}
 use native.Mathlib.Nat.{sub-zero}
 use Rattle.std.proofs.lemmas.List.{take_rest}
+use Rattle.std.proofs.lemmas.Bool.Decides.{nat_tests}
 use Rattle.seed.specs.Seeds.{cut, Outcome, wrong, outcome}
 use Rattle.seed.specs.Telling.{ends_clean, ends_open, goes_wrong, goes_on, stays_shallow}
 use Rattle.seed.proofs.seed.source.SeedSource.draw.Goals as goal
@@ -33,7 +34,7 @@ invariant_of-self c =
     record {
       within = omega (arith, room, s.within);
       counted = omega (arith, c.own_len-size.ensures.some, s.counted);
-      shallow = subst (λ n. n ≤ 32) (sym c.opened_after-self.ensures) low;
+      shallow = grind (arith, nat_tests, low, c.opened_after-self.ensures);
     }
 
 pub returns-in-Ok : goal.returns-in-Ok
