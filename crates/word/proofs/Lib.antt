@@ -3,3 +3,4 @@ pub mod Shown
 pub mod Digits
 pub mod Splits
 pub mod When
+pub mod Made

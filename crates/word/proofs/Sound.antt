@@ -1,5 +1,6 @@
 -- What the record of a module promises, part by part.
-use Rattle.std.proofs.Common.{◌≡◌, ℕ, zero, suc, ◌<◌, ◌≤◌, Bool, true, false, cond, ◌&&◌, ltb, ℤ, pos, negsuc, refl, arith, w32, to_z, of_z}
+use Rattle.std.proofs.Common.{◌≡◌, ℕ, zero, suc, ◌<◌, ◌≤◌, Bool, true, false, cond, ◌&&◌, ltb, List, [], ◌∷◌, ◌++◌, length, take, ℤ, pos, negsuc, refl, arith, w32, to_z, of_z}
+use Rattle.std.proofs.lemmas.List.{take_all, length-take}
 use Rattle.std.proofs.lemmas.Int.{to_z-of_z}
 use Rattle.std.proofs.lemmas.Bool.{and_parts}
 use Rattle.std.proofs.lemmas.Bool.Decides.{nat_tests}
@@ -10,7 +11,7 @@ use Rattle.word.specs.Records.{symbol_of}
 ascii : (letter count : ℕ) → may_have letter count ≡ true → letter < 128
 ascii letter count h = grind (arith, nat_tests)
 
-few : (letter count : ℕ) → may_have letter count ≡ true → count ≤ 3
+pub few : (letter count : ℕ) → may_have letter count ≡ true → count ≤ 3
 few letter count h = grind (arith, nat_tests)
 
 -- a number of a module keeps its value through 32 bits
@@ -78,3 +79,9 @@ module _ (m : Module) where
 
   pub is_valid : valid (symbol_of m) ≡ true
   is_valid = sound_valid m.letter m.count m.a m.b m.c m.ok
+
+  pub listed : (held : List ℤ) (n : ℕ) → held ≡ [] → n ≡ m.count → take 3 (held ++ take n (to_z w32 (of_z w32 m.a) ∷ to_z w32 (of_z w32 m.b) ∷ to_z w32 (of_z w32 m.c) ∷ [])) ≡ (symbol_of m).params
+  listed held n none is =
+      let all = m.a ∷ m.b ∷ m.c ∷ [] in
+      let few : length (take m.count all) ≤ 3 = simp length-take (omega arith) in
+      rw (none, is, a_exact, b_exact, c_exact) (take_all 3 (take m.count all) few)

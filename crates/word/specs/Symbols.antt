@@ -1,5 +1,6 @@
 -- What a module is: a letter with up to three parameters, or a bare bracket.
 use Rattle.std.specs.Prelude.{ℕ, Bool, true, false, cond, ◌&&◌, ◌||◌, List, [], ◌∷◌, length, take, ℤ, codes, ◌==◌, nat_le, nat_lt, unsigned_abs}
+use Rattle.std.specs.List.{list_all}
 
 -- a module: a letter or a bracket, by its ASCII number, and its parameters
 pub record Symbol : Type 0 where
@@ -29,14 +30,17 @@ abbrev pub in_range : ℤ → Bool
 in_range z = nat_le (unsigned_abs z) 1_000_000
 
 abbrev pub all_in_range : List ℤ → Bool
-all_in_range [] = true
-all_in_range (z ∷ zs) = in_range z && all_in_range zs
+all_in_range zs = list_all in_range zs
 
 -- a letter has at most 3 parameters, each in range; a bracket has none
 abbrev pub valid : Symbol → Bool
 valid s =
     cond (is_bracket s.letter) (length s.params == 0)
     (is_letter s.letter && (nat_le (length s.params) 3 && all_in_range s.params))
+
+-- a letter or bracket with these parameters
+abbrev pub symbol_with : ℕ → List ℤ → Symbol
+symbol_with letter params = record { letter = letter; params = params }
 
 -- The record of a module: three single numbers, of which the first `count` are its parameters.
 abbrev pub symbol : ℕ → ℕ → ℤ → ℤ → ℤ → Symbol

@@ -17,6 +17,10 @@ pub record Told : Type 0 where
 abbrev pub after : ℕ → Symbol → ℕ
 after d s = cond (is_open s.letter) (suc d) (cond (is_close s.letter) (pred d) d)
 
+-- a module may stand where d brackets are open: no `]` where none is open, and no `[` where 32 are
+abbrev pub may_stand : ℕ → Symbol → Bool
+may_stand d s = not (is_close s.letter && d == 0) && not (is_open s.letter && nat_le 32 d)
+
 -- the depth of position t: the brackets open before it, where d are open before the word
 abbrev pub depth : ℕ → List Symbol → ℕ → ℕ
 depth d w zero = d

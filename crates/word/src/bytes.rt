@@ -5,10 +5,5 @@ ghost use Rattle.word.specs.Text.{First};
 pub fn find(text: &[u8], byte: u8) -> usize
     ensures { First byte text.now result }
 {
-    for (i, b) in text.iter().enumerate() {
-        if *b == byte {
-            return i;
-        }
-    }
-    text.len()
+    text.iter().position(|b| *b == byte).unwrap_or(text.len())
 }

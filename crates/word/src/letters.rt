@@ -23,5 +23,5 @@ pub fn is_bracket(byte: u8) -> bool
 pub fn in_range(number: i32) -> bool
     ensures { result ≡ in_range number }
 {
-    -GREATEST <= number && number <= GREATEST
+    (-GREATEST..=GREATEST).contains(&number)
 }

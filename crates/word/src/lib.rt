@@ -2,7 +2,7 @@
 #![tactic(auto)]
 
 pub mod bytes;
-pub mod drawn;
+pub mod depth;
 pub mod fault;
 pub mod letters;
 pub mod module;

@@ -1,32 +1,14 @@
 // Numbers in text.
-ghost use Rattle.std.specs.Prelude.{◌≡◌, ◌<◌, ◌≤◌, true, length, IfSome};
-ghost use Rattle.std.specs.Str.{all_ascii_digits};
-ghost use Rattle.word.specs.Text.{number, worth};
+ghost use Rattle.std.specs.Prelude.{◌≡◌, ◌<◌, ◌&&◌, length, nat_le, IfSome};
+ghost use Rattle.std.specs.Char.{is_ascii_digit};
+ghost use Rattle.std.specs.List.{list_all};
+ghost use Rattle.word.specs.Text.{number};
 
-// Whether all bytes are digits.
-fn all_digits(text: &[u8]) -> bool
-    ensures { result ≡ all_ascii_digits text.now }
+// Whether a text is 1 to 7 digits.
+fn is_number(text: &[u8]) -> bool
+    ensures { result ≡ (nat_le 1 (length text.now) && nat_le (length text.now) 7 && list_all is_ascii_digit text.now) }
 {
-    for b in text {
-        if !b.is_ascii_digit() {
-            return false;
-        }
-    }
-    true
-}
-
-// The number that at most 7 digits write.
-fn value(digits: &[u8]) -> u32
-    requires short { length digits.now ≤ 7 }
-    requires all { all_ascii_digits digits.now ≡ true }
-    ensures value { result ≡ worth digits.now }
-    ensures bound { result < 10_000_000 }
-{
-    let mut n: u32 = 0;
-    for d in digits {
-        n = 10 * n + (*d - b'0') as u32;
-    }
-    n
+    1 <= text.len() && text.len() <= 7 && text.iter().all(|b| b.is_ascii_digit())
 }
 
 /// The number that 1 to 7 digits write; none of any other text.
@@ -34,8 +16,8 @@ pub fn number(text: &[u8]) -> Option<u32>
     ensures value { result ≡ number text.now }
     ensures bound { IfSome result (λ n. n < 10_000_000) }
 {
-    if text.is_empty() || text.len() > 7 || !all_digits(text) {
+    if !is_number(text) {
         return None;
     }
-    Some(value(text))
+    str::from_utf8(text).ok()?.parse().ok()
 }

@@ -1,12 +1,14 @@
 ghost use Rattle.std.specs.Prelude.{◌≡◌, false, MatchOption};
-ghost use Rattle.word.specs.Symbols.{may_have, fits, sound};
-ghost use Rattle.word.specs.Records.{Holds};
+ghost use Rattle.word.specs.Symbols.{all_in_range, may_have, symbol_with, valid};
+ghost use Rattle.word.specs.Records.{symbol_of};
+ghost use Rattle.rows.specs.Rows.{held};
 
 use super::super::letters::{in_range, is_bracket, is_letter};
 use super::Module;
+use rows::row::Row;
 
 // Whether a letter or bracket may have so many parameters.
-fn may_have(letter: u8, count: u8) -> bool
+fn may_have(letter: u8, count: usize) -> bool
     ensures { result ≡ may_have letter count }
 {
     if is_bracket(letter) {
@@ -16,37 +18,70 @@ fn may_have(letter: u8, count: u8) -> bool
     }
 }
 
-// Whether a number may stand in a module's record, as a parameter or as one that does not count.
-fn fits(counts: bool, number: i32) -> bool
-    ensures { result ≡ fits counts number }
+// Whether all numbers may be parameters.
+fn all_in_range(numbers: &[i32]) -> bool
+    ensures { result ≡ all_in_range numbers.now }
 {
-    if counts {
-        in_range(number)
-    } else {
-        number == 0
-    }
+    numbers.iter().all(|x| in_range(*x))
 }
 
 impl Module {
-    /// The module of these parts, if they are one: a bare bracket, or a letter with at most 3 parameters in range, where
-    /// what does not count is 0.
-    pub fn new(letter: u8, count: u8, a: i32, b: i32, c: i32) -> Option<Module>
-        ensures { MatchOption result (sound letter count a b c ≡ false) (λ m. Holds m letter count a b c) }
+    /// `[`, to fill a place where no module is.
+    pub const BLANK: Module = Module {
+        letter: b'[',
+        count: 0,
+        a: 0,
+        b: 0,
+        c: 0,
+    };
+
+    /// The module of a letter and its parameters, if there is one: a bare bracket, or a letter with at most 3 parameters in
+    /// range.
+    pub fn new(letter: u8, parameters: &[i32]) -> Option<Module>
+        ensures { MatchOption result (valid (symbol_with letter parameters.now) ≡ false) (λ m. symbol_of m ≡ symbol_with letter parameters.now) }
     {
-        if may_have(letter, count)
-            && fits(count > 0, a)
-            && fits(count > 1, b)
-            && fits(count > 2, c)
-        {
-            Some(Module {
+        if !may_have(letter, parameters.len()) || !all_in_range(parameters) {
+            return None;
+        }
+        let count = parameters.len() as u8;
+        match *parameters {
+            [] => Some(Module {
+                letter,
+                count,
+                a: 0,
+                b: 0,
+                c: 0,
+            }),
+            [a] => Some(Module {
+                letter,
+                count,
+                a,
+                b: 0,
+                c: 0,
+            }),
+            [a, b] => Some(Module {
+                letter,
+                count,
+                a,
+                b,
+                c: 0,
+            }),
+            [a, b, c, ..] => Some(Module {
                 letter,
                 count,
                 a,
                 b,
                 c,
-            })
-        } else {
-            None
+            }),
         }
+    }
+
+    /// The parameters.
+    pub fn parameters(&self) -> Row<i32, 3>
+        ensures { held result ≡ (symbol_of self.now).params }
+    {
+        let mut parameters = Row::new(0);
+        parameters.extend_from_slice(&[self.a, self.b, self.c][..usize::from(self.count)]);
+        parameters
     }
 }
