@@ -6,7 +6,7 @@ use Rattle.job.specs.declared.lines.Lines.{Lines}
 use Rattle.job.specs.declared.lines.Line.{Line}
 use Rattle.job.specs.declared.job.Job.{Job}
 use Rattle.job.specs.declared.order.Order.{Order}
-use Rattle.job.specs.declared.order.Order.TheVariants.{Refused, NotYet, Unroll}
+use Rattle.job.specs.declared.order.Order.TheVariants.{NotYet, Unroll}
 use Rattle.job.specs.Jobs.{lines_of, numbered, is_refused, generations_of, seed_text, book_lines, is_seed_alone}
 
 -- the number of a refusal, and the line that it is written with
@@ -20,10 +20,9 @@ refusal_line NoJob = 1
 abbrev pub to_come : Lines → List (ℕ × List ℕ)
 to_come ls = numbered ls.number (lines_of ls.rest.now)
 
--- the first of the lines before is taken, or there is none
-abbrev pub Takes : List (ℕ × List ℕ) → Option Line → List (ℕ × List ℕ) → Type 0
-Takes before None after = (before ≡ []) × (after ≡ [])
-Takes before (Some line) after = before ≡ (line.number, line.text.now) ∷ after
+-- a line and its number
+abbrev pub line_is : Line → ℕ × List ℕ
+line_is line = (line.number, line.text.now)
 
 -- the parts of a job are what its bytes ask for
 pub record Asks (bytes : List ℕ) (job : Job) : Type 0 where
@@ -42,7 +41,7 @@ Reads bytes (Ok job) = (is_refused bytes ≡ false) × Asks bytes job
 Reads bytes (Err refusal) = Refuses bytes refusal
 
 -- the seed alone is unrolled, and any other job that is not refused has to wait
-abbrev pub Orders : List ℕ → Order → Type 0
-Orders bytes (Refused refusal) = Refuses bytes refusal
-Orders bytes NotYet = (is_refused bytes ≡ false) × (is_seed_alone bytes ≡ false)
-Orders bytes (Unroll text) = (is_refused bytes ≡ false) × (is_seed_alone bytes ≡ true) × (text.now ≡ seed_text bytes)
+abbrev pub Orders : List ℕ → Result Order Refusal → Type 0
+Orders bytes (Err refusal) = Refuses bytes refusal
+Orders bytes (Ok NotYet) = (is_refused bytes ≡ false) × (is_seed_alone bytes ≡ false)
+Orders bytes (Ok (Unroll text)) = (is_refused bytes ≡ false) × (is_seed_alone bytes ≡ true) × (text.now ≡ seed_text bytes)

@@ -3,7 +3,6 @@ ghost use Rattle.job.specs.Reading.{Reads};
 
 use super::lines::walk::cut_line;
 use super::refusal::Refusal;
-use word::bytes::find;
 
 /// A longer job is refused.
 pub const LONGEST: usize = 65_536;
@@ -20,7 +19,7 @@ pub struct Job<'a> {
 pub fn read_job(bytes: &[u8]) -> Result<Job<'_>, Refusal>
     ensures { Reads bytes.now result }
 {
-    if bytes.len() > LONGEST || find(bytes, b'\n') == bytes.len() {
+    if bytes.len() > LONGEST || !bytes.contains(&b'\n') {
         return Err(Refusal::NoJob);
     }
     let (first, others) = cut_line(bytes);

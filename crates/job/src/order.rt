@@ -5,27 +5,23 @@ use super::job::read_job;
 use super::lines::Lines;
 use super::refusal::Refusal;
 
-/// What is done with a job.
+/// What is done with a job. A kind by name, where an `Option` would not say that a job without a seed to unroll is a good one.
 #[derive(Clone, Copy)]
 pub enum Order<'a> {
-    Refused(Refusal),
     /// Generations and books are not served yet.
     NotYet,
     /// The word of this seed text is told.
     Unroll(&'a [u8]),
 }
 
-/// What is done with the job that some bytes are.
-pub fn order_of(bytes: &[u8]) -> Order<'_>
+/// What is done with the job that some bytes are, or why they are refused.
+pub fn order_of(bytes: &[u8]) -> Result<Order<'_>, Refusal>
     ensures { Orders bytes.now result }
 {
-    let job = match read_job(bytes) {
-        Ok(job) => job,
-        Err(refusal) => return Order::Refused(refusal),
-    };
-    if job.generations == 0 && Lines::of_book(job.book).next_line().is_none() {
-        Order::Unroll(job.seed)
+    let job = read_job(bytes)?;
+    if job.generations == 0 && Lines::of_book(job.book).next().is_none() {
+        Ok(Order::Unroll(job.seed))
     } else {
-        Order::NotYet
+        Ok(Order::NotYet)
     }
 }

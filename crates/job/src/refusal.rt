@@ -8,7 +8,7 @@ use std::fmt;
 #[derive(Clone, Copy, PartialEq, Eq, Debug)]
 pub enum Refusal {
     /// The bytes are no job: too many, without LF, or with another first line than one digit 0 to 8.
-    NoJob,
+    NoJob = 58,
 }
 
 impl Refusal {
@@ -16,9 +16,7 @@ impl Refusal {
     pub fn number(self) -> u8
         ensures { result ≡ refusal_number self }
     {
-        match self {
-            Refusal::NoJob => 58,
-        }
+        self as u8
     }
 
     /// The line that is at fault, counted from 1.

@@ -6,10 +6,13 @@ ghost use Rattle.pruner.specs.Pruned.{pruned_meaning, CutBranch, DropsWhatIsCut}
 ghost use Rattle.pruner.specs.Streaming.{left_in};
 ghost use Rattle.pruner.specs.Lawful.{lawful_in};
 
-use word::drawn::Drawn;
+use word::depth::Depth;
+use word::fault::Fault;
+use word::module::Module;
 use word::source::Source;
 
-// Whether modules are passed on, or dropped while at least so many brackets are open.
+// Whether modules are passed on, or dropped while at least so many brackets are open. A state by name, where an `Option` would
+// not say what none means: draw matches it and the module together.
 #[derive(Clone, Copy)]
 enum State {
     Passing,
@@ -40,30 +43,34 @@ impl<S: Source + Drop> Source for Pruner<S> {
 
     ghost lawful = { λ s. lawful_in s.state _ (S.Source.lawful s.below) };
 
-    fn draw(&mut self) -> Drawn {
+    fn draw(&mut self) -> Result<Option<Module>, Fault> {
         loop {
-            let before = self.below.open_brackets();
-            let drawn = self.below.draw();
+            let before = self.below.open_brackets().brackets;
+            let Some(module) = self.below.draw()? else {
+                return Ok(None);
+            };
             // the fewest brackets open around the module
-            let lowest = before.min(self.below.open_brackets());
-            match (self.state, drawn) {
-                (State::Passing, Drawn::Next(m)) if m.letter == b'%' => {
+            let lowest = before.min(self.below.open_brackets().brackets);
+            match (self.state, module) {
+                (State::Passing, module) if module.letter == b'%' => {
                     self.state = State::Dropping(before);
                 }
-                (State::Dropping(floor), Drawn::Next(_)) if floor <= lowest => {}
-                (State::Dropping(_), Drawn::Next(_)) => {
+                (State::Dropping(floor), _) if floor <= lowest => {}
+                (_, module) => {
                     self.state = State::Passing;
-                    return drawn;
+                    return Ok(Some(module));
                 }
-                _ => return drawn,
             }
         }
     }
 
-    fn open_brackets(&self) -> u8 {
+    fn open_brackets(&self) -> Depth {
+        let below = self.below.open_brackets();
         match self.state {
-            State::Passing => self.below.open_brackets(),
-            State::Dropping(floor) => floor.min(self.below.open_brackets()),
+            State::Passing => below,
+            State::Dropping(floor) => Depth {
+                brackets: floor.min(below.brackets),
+            },
         }
     }
 

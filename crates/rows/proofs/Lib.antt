@@ -1,1 +1,2 @@
 mod Fills
+pub mod Held

@@ -1,2 +1,5 @@
 pub mod Cutting
 pub mod Spelling
+pub mod Listing
+pub mod Commas
+pub mod Judging

@@ -1,9 +1,7 @@
 pub mod Seeds
-pub mod Spare
 pub mod Parts
 pub mod Left
 pub mod Written
-pub mod Listing
 pub mod Forming
 pub mod Telling
 pub mod Lawfully

@@ -1,27 +1,27 @@
 -- What the records of the reader hold. Internal.
-use Rattle.std.specs.Prelude.{ℕ, List, [], ◌∷◌, take, ℤ, Ok, Err, Result}
+use Rattle.std.specs.Prelude.{ℕ, Ok, Err, Result}
+use Rattle.rows.specs.Rows.{held}
+use Rattle.word.specs.declared.depth.Depth.{Depth}
 use Rattle.word.specs.declared.module.Module.{Module}
 use Rattle.word.specs.Symbols.{Symbol}
 use Rattle.word.specs.Records.{symbol_of}
-use Rattle.seed.specs.declared.parameters.Parameters.{Parameters}
+use Rattle.seed.specs.declared.cause.Cause.{Cause}
+use Rattle.seed.specs.declared.cause.Cause.TheVariants.{TooLong, Form, Range, NoneOpen, TooDeep, StillOpen}
 use Rattle.seed.specs.declared.module.Draft.{Draft}
-use Rattle.seed.specs.declared.module.Cause.{Cause}
-use Rattle.seed.specs.declared.module.Cause.TheVariants.{Form, Range, NoneOpen, TooDeep}
 use Rattle.seed.specs.Seeds.{Outcome, tells, wrong}
 
-abbrev pub numbers : Parameters → List ℤ
-numbers p = take p.count (p.a ∷ p.b ∷ p.c ∷ [])
-
 abbrev pub drafted : Draft → Symbol
-drafted d = record { letter = d.letter; params = numbers d.parameters }
+drafted d = record { letter = d.letter; params = held d.parameters }
 
 -- the cause of a fault, by its number
 abbrev pub cause_number : Cause → ℕ
+cause_number TooLong = 20
 cause_number Form = 21
 cause_number Range = 22
 cause_number NoneOpen = 23
 cause_number TooDeep = 24
+cause_number StillOpen = 25
 
-abbrev pub outcome_of : Result Module Cause → Outcome
-outcome_of (Ok m) = tells (symbol_of m)
+abbrev pub outcome_of : Result (Module × Depth) Cause → Outcome
+outcome_of (Ok r) = tells (symbol_of r.0)
 outcome_of (Err c) = wrong (cause_number c)

@@ -1,14 +1,16 @@
 // One module of a text.
-ghost use Rattle.std.specs.Prelude.{◌≡◌, ℕ, ◌<◌, ◌≤◌, true, false, ◌∷◌, length, take, drop};
+ghost use Rattle.std.specs.Prelude.{◌≡◌, ◌<◌, ◌≤◌, false, ◌∷◌, length, take, drop, IfOk};
 ghost use Rattle.std.specs.Option.{option_map};
 ghost use Rattle.word.specs.Records.{symbol_of};
 ghost use Rattle.word.specs.Words.{after};
-ghost use Rattle.seed.specs.Seeds.{cut, form, bracketed, outcome};
-ghost use Rattle.seed.specs.Parts.{drafted, cause_number, outcome_of};
+ghost use Rattle.seed.specs.Seeds.{cut, form, outcome};
+ghost use Rattle.seed.specs.Parts.{drafted, outcome_of};
 
-use super::parameters::Parameters;
-use super::parameters::list::read_list;
+use super::cause::Cause;
+use super::parameters::read_list;
+use rows::row::Row;
 use word::bytes::find;
+use word::depth::Depth;
 use word::letters::{is_bracket, is_letter};
 use word::module::Module;
 
@@ -16,28 +18,7 @@ use word::module::Module;
 #[derive(Clone, Copy)]
 pub struct Draft {
     letter: u8,
-    parameters: Parameters,
-}
-
-/// Why a module is not told.
-#[derive(Clone, Copy)]
-pub enum Cause {
-    Form,
-    Range,
-    NoneOpen,
-    TooDeep,
-}
-
-// The cause by its number.
-pub(crate) fn number_of(cause: Cause) -> u8
-    ensures { result ≡ cause_number cause }
-{
-    match cause {
-        Cause::Form => 21,
-        Cause::Range => 22,
-        Cause::NoneOpen => 23,
-        Cause::TooDeep => 24,
-    }
+    parameters: Row<i32, 3>,
 }
 
 // How many bytes the first module of a text has.
@@ -47,73 +28,44 @@ pub(crate) fn own_len(text: &[u8]) -> usize
     ensures within { result ≤ length text.now }
     ensures first { cut false text.now ≡ take result text.now ∷ cut false (drop result text.now) }
 {
-    if text.len() == 1 || text[1] != b'(' {
+    let [_, b'(', list @ ..] = text else {
         return 1;
+    };
+    match find(list, b')') {
+        Some(end) => end + 3,
+        None => text.len(),
     }
-    let list = find(&text[2..], b')');
-    text.len().min(list + 3)
 }
 
 // The module by its form, its parameters not yet held to their range.
 fn read_form(own: &[u8]) -> Option<Draft>
     ensures { option_map drafted result ≡ form own.now }
 {
-    if own.is_empty() {
-        return None;
-    }
-    let letter = own[0];
-    if own.len() == 1 {
-        if is_bracket(letter) || is_letter(letter) {
-            return Some(Draft {
-                letter,
-                parameters: Parameters::none(),
-            });
-        }
-        return None;
-    }
-    let end = own.len() - 1;
-    if !is_letter(letter) || end < 2 || own[end] != b')' {
-        return None;
-    }
-    match read_list(&own[2..end]) {
-        Some(parameters) => Some(Draft { letter, parameters }),
-        None => None,
+    match own {
+        [letter] if is_bracket(*letter) || is_letter(*letter) => Some(Draft {
+            letter: *letter,
+            parameters: Row::new(0),
+        }),
+        [letter, _, list @ ..] if is_letter(*letter) => Some(Draft {
+            letter: *letter,
+            parameters: read_list(list.strip_suffix(b")")?)?,
+        }),
+        _ => None,
     }
 }
 
-// A module that may stand where so many brackets are open.
-fn bracketed(module: Module, opened: u8) -> Result<Module, Cause>
-    ensures { outcome_of result ≡ bracketed opened (symbol_of «module») }
+// The module that these bytes are, and the depth behind it.
+pub(crate) fn read_module(own: &[u8], depth: Depth) -> Result<(Module, Depth), Cause>
+    ensures told { outcome_of result ≡ outcome depth.brackets own.now }
+    ensures behind { IfOk result (λ r. r.1.brackets ≡ after depth.brackets (symbol_of r.0)) }
 {
-    match module.letter {
-        b']' if opened == 0 => Err(Cause::NoneOpen),
-        b'[' if opened >= 32 => Err(Cause::TooDeep),
-        _ => Ok(module),
-    }
-}
-
-// The module that these bytes are, with so many brackets open before it.
-pub(crate) fn read_module(own: &[u8], opened: u8) -> Result<Module, Cause>
-    ensures { outcome_of result ≡ outcome opened own.now }
-{
-    let Some(draft) = read_form(own) else {
-        return Err(Cause::Form);
+    let draft = read_form(own).ok_or(Cause::Form)?;
+    let module = Module::new(draft.letter, draft.parameters.as_slice()).ok_or(Cause::Range)?;
+    let bracketed = if module.letter == b']' {
+        Cause::NoneOpen
+    } else {
+        Cause::TooDeep
     };
-    let p = draft.parameters;
-    match Module::new(draft.letter, p.count, p.a, p.b, p.c) {
-        Some(module) => bracketed(module, opened),
-        None => Err(Cause::Range),
-    }
-}
-
-// The brackets open after a module.
-pub(crate) fn opened_after(opened: u8, module: Module) -> u8
-    requires { opened ≤ 32 }
-    ensures { result ≡ after opened (symbol_of «module») }
-{
-    match module.letter {
-        b'[' => opened + 1,
-        b']' => opened.saturating_sub(1),
-        _ => opened,
-    }
+    let after = depth.after(module).ok_or(bracketed)?;
+    Ok((module, after))
 }

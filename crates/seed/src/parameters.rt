@@ -1,16 +1,41 @@
 // Up to three parameters, as they are read.
-ghost use Rattle.std.specs.Prelude.{◌≡◌, ◌≤◌, true};
-ghost use Rattle.seed.specs.Spare.{spare};
+ghost use Rattle.std.specs.Prelude.{◌≡◌, pos};
+ghost use Rattle.std.specs.Option.{option_map};
+ghost use Rattle.word.specs.Text.{number};
+ghost use Rattle.seed.specs.Seeds.{integer, parameters};
+ghost use Rattle.rows.specs.Rows.{held};
 
-pub mod list;
+use rows::row::Row;
+use word::numbers::number;
 
-// The first `count` numbers are parameters; what does not count is 0.
-#[derive(Clone, Copy)]
-pub struct Parameters {
-    pub count: u8,
-    pub a: i32,
-    pub b: i32,
-    pub c: i32,
-    ghost few: { count ≤ 3 },
-    ghost rest: { spare count a b c ≡ true },
+// The number that 1 to 7 digits write.
+fn digits(text: &[u8]) -> Option<i32>
+    ensures { result ≡ option_map pos (number text.now) }
+{
+    number(text).map(|n| n as i32)
+}
+
+// The parameter that a text is: an optional `-` and 1 to 7 digits.
+fn integer(text: &[u8]) -> Option<i32>
+    ensures { result ≡ integer text.now }
+{
+    match text {
+        [b'-', behind @ ..] => Some(-digits(behind)?),
+        _ => digits(text),
+    }
+}
+
+// The parameters of a list, if it is one of 1 to 3 that are split by commas.
+pub(crate) fn read_list(list: &[u8]) -> Option<Row<i32, 3>>
+    ensures { option_map held result ≡ parameters list.now }
+{
+    let mut found = Row::new(0);
+    for part in list.split(|b| *b == b',') {
+        let parameter = integer(part)?;
+        if found.len() == 3 {
+            return None;
+        }
+        found.push(parameter);
+    }
+    Some(found)
 }

@@ -1,15 +1,17 @@
 use crate::seed::Seed;
 use std::process::Abort;
-use word::drawn::Drawn;
 use word::fault::Fault;
+use word::module::Module;
 use word::source::Source;
+
+type Drawn = Result<Option<Module>, Fault>;
 
 // How a text ends, asked twice. No text has more than 65,536 modules.
 fn ends(text: &[u8]) -> (Drawn, Drawn) {
     let mut seed = Seed::new(text);
     for _ in 0..65_536 {
         match seed.draw() {
-            Drawn::Next(_) => {}
+            Ok(Some(_)) => {}
             end => return (end, seed.draw()),
         }
     }
@@ -17,7 +19,7 @@ fn ends(text: &[u8]) -> (Drawn, Drawn) {
 }
 
 fn stops(rt: &impl Abort, text: &[u8], cause: u8, place: u32) {
-    let fault = Drawn::Broken(Fault {
+    let fault = Err(Fault {
         cause,
         generation: 0,
         place,
@@ -29,8 +31,8 @@ fn stops(rt: &impl Abort, text: &[u8], cause: u8, place: u32) {
 
 fn is_clean(rt: &impl Abort, text: &[u8]) {
     let (first, again) = ends(text);
-    assert_eq!(rt; first, Drawn::Clean);
-    assert_eq!(rt; again, Drawn::Clean);
+    assert_eq!(rt; first, Ok(None));
+    assert_eq!(rt; again, Ok(None));
 }
 
 #[test]

@@ -7,7 +7,6 @@ use job::order::{Order, order_of};
 use pruner::Pruner;
 use seed::seed::Seed;
 use std::fmt;
-use word::drawn::Drawn;
 use word::source::Source;
 
 // Writes the word that a source has still to tell on one line, and how it ends on the next.
@@ -17,9 +16,9 @@ fn show_word<S: Source, W: fmt::Write>(source: &mut S, f: &mut fmt::Formatter<W>
 {
     loop {
         match source.draw() {
-            Drawn::Next(module) => write!(f, "{module}")?,
-            Drawn::Clean => return writeln!(f, "\nend clean"),
-            Drawn::Broken(fault) => return writeln!(f, "\nend fault {fault}"),
+            Ok(Some(module)) => write!(f, "{module}")?,
+            Ok(None) => return writeln!(f, "\nend clean"),
+            Err(fault) => return writeln!(f, "\nend fault {fault}"),
         }
     }
 }
@@ -35,9 +34,9 @@ impl fmt::Display for Answer<'_> {
 
     fn fmt<W: fmt::Write>(&self, f: &mut fmt::Formatter<W>) -> fmt::Result {
         match order_of(self.job) {
-            Order::Refused(refusal) => writeln!(f, "refused {refusal}"),
-            Order::NotYet => writeln!(f, "not yet"),
-            Order::Unroll(text) => show_word(&mut Pruner::new(Seed::new(text)), f),
+            Err(refusal) => writeln!(f, "refused {refusal}"),
+            Ok(Order::NotYet) => writeln!(f, "not yet"),
+            Ok(Order::Unroll(text)) => show_word(&mut Pruner::new(Seed::new(text)), f),
         }
     }
 }

@@ -4,3 +4,4 @@ pub mod Digits
 pub mod Splits
 pub mod When
 pub mod Made
+pub mod Among

@@ -1,6 +1,7 @@
 -- A text is split at the first byte that is found.
 use Rattle.std.proofs.Common.{◌≡◌, ℕ, zero, suc, Bool, true, false, cond, eqb, ltb, List, [], ◌∷◌, length, take, drop, sym, refl, ap, ◌∙◌, arith}
 use lib.Dec.{leb-suc-suc}
+use Rattle.std.specs.List.{slice_split, onto_first}
 use Rattle.std.proofs.lemmas.Bool.{eq-eqb, ne_eqb, lt-ltb}
 use Rattle.word.specs.Text.{First, glued, split}
 use Rattle.word.proofs.When.{when_true, when_false}
@@ -27,3 +28,16 @@ split_first c (b ∷ l) (suc r) f =
     split_on c b l (first_other c b l r f)
     ∙ ap (glued b) (split_first c l r (first_later c b l r f))
     ∙ ap (λ (t : Bool). (b ∷ take r l) ∷ cond t (split c (drop (suc r) l)) []) (sym (leb-suc-suc (suc r) (length l)))
+
+-- the parts, as the library's `split` gives them
+pub split_is : (c : ℕ) (text : List ℕ) → slice_split (λ b. eqb b c) text ≡ split c text
+split_is c [] = refl
+split_is c (b ∷ bs) = go (eqb b c) (split_is c bs)
+  where
+    glue : (ps : List (List ℕ)) → onto_first b ps ≡ glued b ps
+    glue [] = refl
+    glue (p ∷ ps) = refl
+
+    go : (t : Bool) → slice_split (λ x. eqb x c) bs ≡ split c bs → cond t ([] ∷ slice_split (λ x. eqb x c) bs) (onto_first b (slice_split (λ x. eqb x c) bs)) ≡ (let r : List (List ℕ) = elim t [ true ↦ [] ∷ split c bs | false ↦ glued b (split c bs) ] in r)
+    go true e = ap (λ (ps : List (List ℕ)). [] ∷ ps) e
+    go false e = glue (slice_split (λ x. eqb x c) bs) ∙ ap (glued b) e

@@ -1,9 +1,10 @@
 // Bytes in text.
+ghost use Rattle.std.specs.Prelude.{◌<◌, length, MatchOption};
 ghost use Rattle.word.specs.Text.{First};
 
-/// The index of the first such byte, or the text's length where there is none.
-pub fn find(text: &[u8], byte: u8) -> usize
-    ensures { First byte text.now result }
+/// The index of the first such byte, if there is one.
+pub fn find(text: &[u8], byte: u8) -> Option<usize>
+    ensures { MatchOption result (First byte text.now (length text.now)) (λ i. First byte text.now i × (i < length text.now)) }
 {
-    text.iter().position(|b| *b == byte).unwrap_or(text.len())
+    text.iter().position(|b| *b == byte)
 }

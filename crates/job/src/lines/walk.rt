@@ -1,6 +1,7 @@
 ghost use Rattle.std.specs.Prelude.{◌≡◌, ◌<◌, length, drop};
 ghost use Rattle.job.specs.Jobs.{lines_of, line_after, numbered};
-ghost use Rattle.job.specs.Reading.{to_come, Takes};
+ghost use Rattle.std.specs.Iterator.{YieldsFirstBy, item_count};
+ghost use Rattle.job.specs.Reading.{line_is, to_come};
 
 use super::{Line, Lines};
 use word::bytes::find;
@@ -11,11 +12,9 @@ pub(crate) fn cut_line(text: &[u8]) -> (&[u8], &[u8])
     ensures others { lines_of result.1.now ≡ drop 1 (lines_of text.now) }
     ensures shorter { 0 < length text.now → length result.1.now < length text.now }
 {
-    let end = find(text, b'\n');
-    if end == text.len() {
-        (text, &text[end..])
-    } else {
-        (&text[0..end], &text[end + 1..])
+    match find(text, b'\n') {
+        Some(end) => (&text[..end], &text[end + 1..]),
+        None => (text, &[]),
     }
 }
 
@@ -29,11 +28,17 @@ impl<'a> Lines<'a> {
             number: 3,
         }
     }
+}
 
-    /// Takes the first line still to come that is not empty.
-    pub fn next_line(&mut self) -> Option<Line<'a>>
-        ensures { Takes (to_come self.old) result (to_come self.new) }
-    {
+/// The lines still to come that are not empty.
+impl<'a> Iterator for Lines<'a> {
+    type Item = Line<'a>;
+
+    ghost next_gives = { YieldsFirstBy line_is to_come };
+
+    ghost remaining = { item_count to_come };
+
+    fn next(&mut self) -> Option<Line<'a>> {
         while !self.rest.is_empty() {
             let number = self.number;
             let (text, rest) = cut_line(self.rest);

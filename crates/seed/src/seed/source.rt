@@ -4,10 +4,12 @@ ghost use Rattle.seed.specs.Left.{left};
 ghost use Rattle.seed.specs.Written.{ReadsBack};
 ghost use Rattle.seed.specs.Lawfully.{lawfully};
 
-use super::super::module::{number_of, opened_after, own_len, read_module};
+use super::super::cause::Cause;
+use super::super::module::{own_len, read_module};
 use super::Seed;
-use word::drawn::Drawn;
+use word::depth::Depth;
 use word::fault::Fault;
+use word::module::Module;
 use word::source::Source;
 
 /// A longer text tells nothing.
@@ -16,62 +18,47 @@ pub const LONGEST: usize = 65_536;
 impl<'a> Seed<'a> {
     /// The source of a seed text, whatever bytes it has.
     pub fn new(text: &'a [u8]) -> Seed<'a>
-        ensures meaning { left result.text.now result.at result.told result.opened ≡ seeded text.now }
-        ensures law { ReadsBack text.now (left result.text.now result.at result.told result.opened).told }
+        ensures meaning { left result.text.now result.at result.told result.depth.brackets ≡ seeded text.now }
+        ensures law { ReadsBack text.now (left result.text.now result.at result.told result.depth.brackets).told }
     {
         Seed {
             text,
             at: 0,
             told: 0,
-            opened: 0,
+            depth: Depth::ZERO,
         }
     }
 }
 
 impl<'a> Source for Seed<'a> {
-    ghost means = { λ s. left s.text.now s.at s.told s.opened };
+    ghost means = { λ s. left s.text.now s.at s.told s.depth.brackets };
 
-    ghost lawful = { λ s. lawfully s.text.now s.at s.told s.opened s.within s.counted s.shallow };
+    ghost lawful = { λ s. lawfully s.text.now s.at s.told s.depth.brackets s.within s.counted s.depth.shallow };
 
-    fn draw(&mut self) -> Drawn {
+    fn draw(&mut self) -> Result<Option<Module>, Fault> {
         let text = self.text;
         if text.len() > LONGEST {
-            return Drawn::Broken(Fault {
-                cause: 20,
-                generation: 0,
-                place: 1,
-            });
+            return Err(Cause::TooLong.at(1));
         }
         let place = self.told + 1;
         if self.at == text.len() {
-            if self.opened == 0 {
-                return Drawn::Clean;
+            if self.depth.brackets == 0 {
+                return Ok(None);
             }
-            return Drawn::Broken(Fault {
-                cause: 25,
-                generation: 0,
-                place,
-            });
+            return Err(Cause::StillOpen.at(place));
         }
         let rest = &text[self.at..];
         let size = own_len(rest);
-        match read_module(&rest[0..size], self.opened) {
-            Ok(module) => {
-                self.at += size;
-                self.told += 1;
-                self.opened = opened_after(self.opened, module);
-                Drawn::Next(module)
-            }
-            Err(cause) => Drawn::Broken(Fault {
-                cause: number_of(cause),
-                generation: 0,
-                place,
-            }),
-        }
+        let (module, depth) =
+            read_module(&rest[0..size], self.depth).map_err(|cause| cause.at(place))?;
+        self.at += size;
+        self.told += 1;
+        self.depth = depth;
+        Ok(Some(module))
     }
 
-    fn open_brackets(&self) -> u8 {
-        self.opened
+    fn open_brackets(&self) -> Depth {
+        self.depth
     }
 
     fn generation(&self) -> u8 {

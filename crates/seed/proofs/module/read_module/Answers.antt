@@ -1,41 +1,41 @@
-use Rattle.std.proofs.Common.{◌≡◌, true, false, sym, ap, ◌∙◌, w32, SFits, rules}
-use Rattle.std.proofs.lemmas.Int.{to_z-of_z}
-use Rattle.word.specs.Symbols.{symbol, sound}
+use Rattle.std.proofs.Common.{rules, ◌≡◌, ◌∙◌, sym, true, false, Some, Err, ap}
+use Rattle.rows.specs.Rows.{held}
+use Rattle.word.specs.Symbols.{symbol_with, valid}
+use Rattle.word.specs.Words.{may_stand}
 use Rattle.word.specs.Records.{symbol_of}
-use Rattle.seed.specs.Parts.{drafted}
-use Rattle.seed.specs.Seeds.{bracketed}
-use Rattle.seed.specs.Forming.{judged_by, sound_read}
+use Rattle.seed.specs.declared.cause.Cause.TheVariants.{Range}
+use Rattle.seed.specs.Seeds.{form, wrong}
+use Rattle.seed.specs.Parts.{cause_number, outcome_of}
+use Rattle.seed.proofs.Judging.{out_of_range, stands, closes_none, opens_too_deep}
+use Rattle.seed.proofs.module.read_module.Goals.{then-module-eq93, else-module-eq93}
 use Rattle.seed.proofs.module.read_module.Goals as goal
 
-pub returns-in-Some-new : goal.returns-in-Some-new
-returns-in-Some-new c =
-    let own = c.args.own.now in
-    let draft = c.in-Some.draft in
-    let p = draft.parameters in
-    let m = c.in-Some-new.module in
-    let h = c.in-Some-new.ensures in
-    let fa : SFits w32 p.a = search rules in
-    let fb : SFits w32 p.b = search rules in
-    let fc : SFits w32 p.c = search rules in
-    let a : m.a ≡ p.a = h.a_is ∙ to_z-of_z w32 p.a fa in
-    let b : m.b ≡ p.b = h.b_is ∙ to_z-of_z w32 p.b fb in
-    let d : m.c ≡ p.c = h.c_is ∙ to_z-of_z w32 p.c fc in
-    let form = sym c.in-Some.ensures in
-    let is : symbol_of m ≡ drafted draft = λ i. symbol (h.letter_is i) (h.count_is i) (a i) (b i) (d i) in
-    let ok : sound draft.letter p.count p.a p.b p.c ≡ true = sym (λ i. sound (h.letter_is i) (h.count_is i) (a i) (b i) (d i)) ∙ m.ok in
-    c.bracketed.ensures
-    ∙ ap (bracketed c.args.opened) is
-    ∙ sym (judged_by c.args.opened own (drafted draft) true form (sound_read own draft.letter p form ∙ ok))
+pub returns-in_err-module-clause-told : goal.returns-in_err-module-clause-told
+returns-in_err-module-clause-told c =
+    let draft = c.in_ok-draft.draft in
+    let read : form c.args.own.now ≡ Some (symbol_with draft.letter (held draft.parameters)) = search rules in
+    let none : valid (symbol_with draft.letter (held draft.parameters)) ≡ false = search rules in
+    let err : c.from_residual-in_err-module.result ≡ Err Range = search rules in
+    ap outcome_of err ∙ out_of_range c.args.depth.brackets c.args.own.now draft.letter (held draft.parameters) read none
 
-pub returns-in-None : goal.returns-in-None
-returns-in-None c =
-    let own = c.args.own.now in
-    let draft = c.in-Some.draft in
-    let p = draft.parameters in
-    let fa : SFits w32 p.a = search rules in
-    let fb : SFits w32 p.b = search rules in
-    let fc : SFits w32 p.c = search rules in
-    let form = sym c.in-Some.ensures in
-    let off : sound draft.letter p.count p.a p.b p.c ≡ false =
-    sym (λ i. sound draft.letter p.count (to_z-of_z w32 p.a fa i) (to_z-of_z w32 p.b fb i) (to_z-of_z w32 p.c fc i)) ∙ c.in-None.ensures in
-    sym (judged_by c.args.opened own (drafted draft) false form (sound_read own draft.letter p form ∙ off))
+pub returns-in_err-after-clause-told : goal.returns-in_err-after-clause-told
+returns-in_err-after-clause-told c =
+    let draft = c.in_ok-draft.draft in
+    let m = c.in_ok-module.module in
+    let read : form c.args.own.now ≡ Some (symbol_with draft.letter (held draft.parameters)) = search rules in
+    let same : symbol_of m ≡ symbol_with draft.letter (held draft.parameters) = search rules in
+    let none : may_stand c.args.depth.brackets (symbol_of m) ≡ false = search rules in
+    let err : c.from_residual-in_err-after.result ≡ Err c.if-module-eq93.bracketed = search rules in
+    ap outcome_of err ∙ (elim c.if-module-eq93.branch [
+        then-module-eq93 w ↦ ap (λ b. wrong (cause_number b)) w.bracketed-is ∙ closes_none c.args.depth.brackets c.args.own.now draft.letter (held draft.parameters) read m same none w.if-module-eq93.true
+      | else-module-eq93 w ↦ ap (λ b. wrong (cause_number b)) w.bracketed-is ∙ opens_too_deep c.args.depth.brackets c.args.own.now draft.letter (held draft.parameters) read m same none w.if-module-eq93.false
+      ])
+
+pub returns-clause-told : goal.returns-clause-told
+returns-clause-told c = 
+    let draft = c.in_ok-draft.draft in
+    let m = c.in_ok-module.module in
+    let read : form c.args.own.now ≡ Some (symbol_with draft.letter (held draft.parameters)) = search rules in
+    let same : symbol_of m ≡ symbol_with draft.letter (held draft.parameters) = search rules in
+    let may : may_stand c.args.depth.brackets (symbol_of m) ≡ true = search rules in
+    stands c.args.depth.brackets c.args.own.now draft.letter (held draft.parameters) read m same may

@@ -1,6 +1,6 @@
 use Rattle.std.proofs.Common.{◌≡◌, length}
 use Rattle.job.specs.Reading.{to_come}
-use Rattle.job.proofs.lines.Lines.next_line.Given as goal
+use Rattle.job.proofs.lines.walk.LinesIterator.next.Given as goal
 
 -- only empty lines have been passed over
 abbrev pub invariant-loop-number : goal.invariant-loop-number
