@@ -1,10 +1,8 @@
 -- Which jobs are refused, and what the first line says.
-use Rattle.std.proofs.Common.{◌≡◌, ℕ, zero, suc, ◌-◌, ◌<◌, ◌≤◌, true, false, ◌||◌, ltb, List, [], ◌∷◌, length, get_or, sym, refl, ap, ◌∙◌, zero-add, arith}
-use lib.Dec.{leb-suc-suc}
-use Rattle.std.proofs.lemmas.Bool.{eq-eqb, ne_eqb, lt-ltb, le-ltb, le-leb, and_from, or_left, or_right, or_from, not_from_true, not_from_false}
+use Rattle.std.proofs.Common.{◌≡◌, ℕ, ◌-◌, ◌<◌, ◌≤◌, true, false, ltb, List, [], ◌∷◌, length, get_or, sym, zero-add, arith}
+use Rattle.std.proofs.lemmas.Bool.{lt-ltb, le-ltb, le-leb, and_from, or_left, or_right, or_from, not_from_true, not_from_false}
 use Rattle.word.specs.Symbols.{among}
-use Rattle.word.specs.Text.{First, worth}
-use Rattle.word.proofs.Splits.{first_later}
+use Rattle.word.specs.Text.{worth}
 use Rattle.job.specs.Jobs.{is_digit_to_8, is_refused, line_after}
 
 pub refused_long : (job : List ℕ) → 65_536 < length job → is_refused job ≡ true

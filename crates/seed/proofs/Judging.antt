@@ -1,14 +1,14 @@
 -- A module that is read by its form is judged by its range, and then by the brackets open.
-use Rattle.std.proofs.Common.{◌≡◌, ℕ, Bool, true, false, cond, not, ◌&&◌, eqb, leb, List, length, ℤ, Some, sym, refl, ap, ◌∙◌, arith}
+use Rattle.std.proofs.Common.{◌≡◌, ℕ, Bool, true, false, cond, not, ◌&&◌, eqb, leb, List, ℤ, Some, sym, refl, ap, ◌∙◌, arith}
 use Rattle.std.proofs.lemmas.Bool.{cond-true, cond-false}
 use Rattle.std.proofs.lemmas.Bool.Decides.{nat_tests}
 use Rattle.word.specs.declared.module.Module.{Module}
-use Rattle.word.specs.Symbols.{Symbol, is_open, is_close, all_in_range, may_have, symbol_with, valid}
+use Rattle.word.specs.Symbols.{is_open, is_close, all_in_range, symbol_with, valid}
 use Rattle.word.specs.Words.{may_stand}
 use Rattle.word.specs.Records.{symbol_of}
 use Rattle.word.proofs.Made.{valid_is}
 use Rattle.word.proofs.Sound.{is_valid}
-use Rattle.seed.specs.Seeds.{form, Outcome, tells, wrong, bracketed, judged, outcome}
+use Rattle.seed.specs.Seeds.{form, tells, wrong, bracketed, judged, outcome}
 use Rattle.seed.specs.Forming.{formed}
 
 module _ (d : ℕ) (own : List ℕ) (l : ℕ) (ps : List ℤ) (is : form own ≡ Some (symbol_with l ps)) where

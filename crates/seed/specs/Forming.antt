@@ -1,11 +1,11 @@
 -- What the form of a module says of its letter and parameters. Lemmas of the law of sources: internal.
-use Rattle.std.proofs.Common.{◌≡◌, ℕ, zero, suc, ◌-◌, ◌<◌, ◌≤◌, Bool, true, false, cond, ◌&&◌, ◌||◌, eqb, leb, List, [], ◌∷◌, length, get_or, take, drop, ℤ, Some, None, Option, sym, refl, ap, ◌∙◌, arith}
+use Rattle.std.proofs.Common.{◌≡◌, ℕ, ◌≤◌, Bool, true, false, cond, ◌&&◌, ◌||◌, leb, List, [], ◌∷◌, length, ℤ, Some, None, Option, refl, arith}
 use Rattle.std.specs.Option.{option_map}
-use Rattle.std.proofs.lemmas.Bool.{eq-eqb, cond-true, leb-true}
+use Rattle.std.proofs.lemmas.Bool.{leb-true}
 use Rattle.std.proofs.lemmas.Bool.Decides.{nat_tests as told}
-use Rattle.word.specs.Symbols.{Symbol, is_letter, is_bracket, in_range, all_in_range, may_have, fits, sound}
+use Rattle.word.specs.Symbols.{Symbol, is_letter, is_bracket, may_have}
 use Rattle.word.specs.Text.{split}
-use Rattle.seed.specs.Seeds.{integers, parameters, at_most_3, closed, bare, with_list, form, wrong, bracketed, judged, outcome}
+use Rattle.seed.specs.Seeds.{integers, parameters, at_most_3, closed, bare, with_list, form}
 
 letter_counts : (b n : ℕ) → is_letter b ≡ true → n ≤ 3 → may_have b n ≡ true
 letter_counts b n l few = grind (arith, told)

@@ -1,19 +1,15 @@
 -- What a seed still tells, step by step. Lemmas of the law of sources: internal.
-use Rattle.std.proofs.Common.{◌≡◌, ℕ, suc, ◌+◌, ◌<◌, ◌≤◌, Bool, true, false, cond, ◌&&◌, eqb, ltb, leb, List, [], ◌∷◌, length, take, drop, Some, None, Ok, Err, Option, sym, refl, ap, ◌∙◌, add-one, arith}
-use Rattle.std.proofs.lemmas.List.{drop_all, drop-drop}
-use Rattle.std.proofs.lemmas.Bool.{eq-eqb, ne_eqb, le-ltb, lt-ltb}
+use Rattle.std.proofs.Common.{◌≡◌, ℕ, suc, ◌+◌, ◌≤◌, Bool, true, false, cond, ◌&&◌, eqb, ltb, leb, List, ◌∷◌, length, take, drop, Some, None, Ok, Option, sym, refl, ap, ◌∙◌, add-one, arith}
+use Rattle.std.proofs.lemmas.List.{drop-drop}
+use Rattle.std.proofs.lemmas.Bool.{le-ltb}
 use Rattle.std.proofs.lemmas.Bool.Decides.{nat_tests as told}
 use Rattle.word.specs.declared.module.Module.{Module}
 use Rattle.word.specs.Symbols.{Symbol, is_open, is_close, all_in_range}
-use Rattle.word.specs.Words.{clean, broken, Told, after}
+use Rattle.word.specs.Words.{Told, after}
 use Rattle.word.specs.Records.{symbol_of, Draws}
-use Rattle.word.proofs.When.{when_true, when_false}
+use Rattle.word.proofs.When.{when_false}
 use Rattle.seed.specs.Seeds.{cut, form, Outcome, tells, wrong, judged, outcome, stopped, onto, reads}
 use Rattle.seed.specs.Left.{left}
-
-reads_wrong : (d place : ℕ) (own : List ℕ) (rest : List (List ℕ)) (cause : ℕ) → outcome d own ≡ wrong cause → reads d place (own ∷ rest) ≡ stopped cause place
-reads_wrong d place own rest cause e =
-    ap (λ (o : Outcome). let t : Told = elim o [ wrong x ↦ stopped x place | tells s ↦ onto s (reads (after d s) (suc place) rest) ] in t) e
 
 pub reads_tells : (d place : ℕ) (own : List ℕ) (rest : List (List ℕ)) (s : Symbol) → outcome d own ≡ tells s → reads d place (own ∷ rest) ≡ onto s (reads (after d s) (suc place) rest)
 reads_tells d place own rest s e =
@@ -23,28 +19,10 @@ module _ (text : List ℕ) (short : length text ≤ 65_536) where
   still : (at n d : ℕ) → (left text at n d).told ≡ reads d (suc n) (cut false (drop at text))
   still at n d = when_false (ltb 65_536 (length text)) (stopped 20 1) (reads d (suc n) (cut false (drop at text))) (le-ltb 65_536 (length text) short)
 
-  at_end : (at n d : ℕ) → at ≡ length text → (left text at n d).told ≡ reads d (suc n) []
-  at_end at n d e = still at n d ∙ ap (λ l. reads d (suc n) (cut false l)) (drop_all at text (omega arith))
-
-  pub ends_clean : (at n d : ℕ) → at ≡ length text → d ≡ 0 → Draws (left text at n d) (Ok None) (left text at n d)
-  ends_clean at n d e z =
-      let t : (left text at n d).told ≡ record { modules = []; ending = clean } = at_end at n d e ∙ when_true (eqb d 0) (record { modules = []; ending = clean }) (stopped 25 (suc n)) (eq-eqb d 0 z) in
-      (ap (λ (w : Told). w.modules) t, ap (λ (w : Told). w.ending) t, refl)
-
-  stops : (at n d cause : ℕ) → (left text at n d).told ≡ stopped cause (suc n) → Draws (left text at n d) (Err (record { cause = cause; generation = 0; place = n + 1 })) (left text at n d)
-  stops at n d cause t =
-      (ap (λ (w : Told). w.modules) t, ap (λ (w : Told). w.ending) t ∙ ap (λ k. broken (record { cause = cause; generation = 0; place = k })) (sym (add-one n)), refl)
-
-  pub ends_open : (at n d : ℕ) → at ≡ length text → (d ≡ 0 → ⊥) → Draws (left text at n d) (Err (record { cause = 25; generation = 0; place = n + 1 })) (left text at n d)
-  ends_open at n d e z = stops at n d 25 (at_end at n d e ∙ when_false (eqb d 0) (record { modules = []; ending = clean }) (stopped 25 (suc n)) (ne_eqb d 0 z))
-
   -- the first module from `at` on has these bytes, of which there are `size`
   module _ (at n d size : ℕ) (first : cut false (drop at text) ≡ take size (drop at text) ∷ cut false (drop size (drop at text))) where
     here : (left text at n d).told ≡ reads d (suc n) (take size (drop at text) ∷ cut false (drop size (drop at text)))
     here = still at n d ∙ ap (reads d (suc n)) first
-
-    pub goes_wrong : (cause : ℕ) → outcome d (take size (drop at text)) ≡ wrong cause → Draws (left text at n d) (Err (record { cause = cause; generation = 0; place = n + 1 })) (left text at n d)
-    goes_wrong cause e = stops at n d cause (here ∙ reads_wrong d (suc n) (take size (drop at text)) (cut false (drop size (drop at text))) cause e)
 
     pub goes_on : (m : Module) (d' : ℕ) → outcome d (take size (drop at text)) ≡ tells (symbol_of m) → d' ≡ after d (symbol_of m) → Draws (left text at n d) (Ok (Some m)) (left text (at + size) (n + 1) d')
     goes_on m d' e is =
@@ -54,11 +32,6 @@ module _ (text : List ℕ) (short : length text ≤ 65_536) where
         ∙ (λ i. reads (is i) (suc (add-one n i)) (cut false (sym (drop-drop size at text) i))) in
         let t : (left text at n d).told ≡ onto s (reads (after d s) (suc (suc n)) (cut false (drop size (drop at text)))) = here ∙ reads_tells d (suc n) (take size (drop at text)) (cut false (drop size (drop at text))) s e in
         (ap (λ (w : Told). w.modules) t ∙ ap (λ (w : Told). s ∷ w.modules) (sym rest), ap (λ (w : Told). w.ending) rest ∙ sym (ap (λ (w : Told). w.ending) t), is, refl)
-
-pub too_long : (text : List ℕ) (at n d : ℕ) → 65_536 < length text → Draws (left text at n d) (Err (record { cause = 20; generation = 0; place = 1 })) (left text at n d)
-too_long text at n d long =
-    let t : (left text at n d).told ≡ stopped 20 1 = when_true (ltb 65_536 (length text)) (stopped 20 1) (reads d (suc n) (cut false (drop at text))) (lt-ltb 65_536 (length text) long) in
-    (ap (λ (w : Told). w.modules) t, ap (λ (w : Told). w.ending) t, refl)
 
 -- what is known of a module that is told
 pub record Proper (d : ℕ) (own : List ℕ) (s : Symbol) : Type 0 where

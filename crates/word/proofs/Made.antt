@@ -1,5 +1,5 @@
 -- A module that is made of a letter and parameters.
-use Rattle.std.proofs.Common.{◌≡◌, ℕ, zero, suc, ◌<◌, ◌≤◌, Bool, true, false, cond, ◌&&◌, ◌⊎◌, eqb, leb, List, [], ◌∷◌, length, get_or, take, ℤ, pos, refl, inl, inr, arith, w32, to_z, of_z}
+use Rattle.std.proofs.Common.{◌≡◌, ℕ, ◌<◌, ◌≤◌, Bool, true, false, cond, ◌&&◌, ◌⊎◌, eqb, leb, List, [], ◌∷◌, length, get_or, ℤ, pos, refl, inl, inr, arith, w32, to_z, of_z}
 use Rattle.std.proofs.lemmas.Bool.{and_parts, and_from, ne_eqb}
 use Rattle.word.specs.Symbols.{is_letter, is_bracket, in_range, all_in_range, may_have, sound, symbol, symbol_with, valid}
 use Rattle.word.proofs.Sound.{exact}

@@ -1,5 +1,5 @@
 -- What a module is: a letter with up to three parameters, or a bare bracket.
-use Rattle.std.specs.Prelude.{ℕ, Bool, true, false, cond, ◌&&◌, ◌||◌, List, [], ◌∷◌, length, take, ℤ, codes, ◌==◌, nat_le, nat_lt, unsigned_abs}
+use Rattle.std.specs.Prelude.{ℕ, Bool, false, cond, ◌&&◌, ◌||◌, List, [], ◌∷◌, length, take, ℤ, codes, ◌==◌, nat_le, nat_lt, unsigned_abs}
 use Rattle.std.specs.List.{list_all}
 
 -- a module: a letter or a bracket, by its ASCII number, and its parameters

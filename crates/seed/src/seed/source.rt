@@ -49,8 +49,9 @@ impl<'a> Source for Seed<'a> {
         }
         let rest = &text[self.at..];
         let size = own_len(rest);
-        let (module, depth) =
-            read_module(&rest[0..size], self.depth).map_err(|cause| cause.at(place))?;
+        let (module, depth) = read_module(&rest[0..size], self.depth).map_err(|cause| cause.at(
+            place,
+        ))?;
         self.at += size;
         self.told += 1;
         self.depth = depth;

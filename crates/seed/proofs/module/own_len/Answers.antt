@@ -1,4 +1,4 @@
-use Rattle.std.proofs.Common.{◌≡◌, ◌+◌, ◌-◌, ◌<◌, length, take, drop, ap, arith, subst, rules, length-drop}
+use Rattle.std.proofs.Common.{◌+◌, ◌-◌, ◌<◌, length, take, drop, arith, subst, rules, length-drop}
 use Rattle.std.proofs.lemmas.List.{take_rest}
 use Rattle.word.specs.Text.{First}
 use Rattle.seed.proofs.Cutting.{cut_listed}

@@ -1,4 +1,4 @@
-use Rattle.std.proofs.Common.{rules, ◌≡◌, ◌∙◌, sym, true, false, Some, Err, ap}
+use Rattle.std.proofs.Common.{rules, ◌≡◌, ◌∙◌, true, false, Some, Err, ap}
 use Rattle.rows.specs.Rows.{held}
 use Rattle.word.specs.Symbols.{symbol_with, valid}
 use Rattle.word.specs.Words.{may_stand}
@@ -27,12 +27,12 @@ returns-in_err-after-clause-told c =
     let none : may_stand c.args.depth.brackets (symbol_of m) ≡ false = search rules in
     let err : c.from_residual-in_err-after.result ≡ Err c.if-module-eq93.bracketed = search rules in
     ap outcome_of err ∙ (elim c.if-module-eq93.branch [
-        then-module-eq93 w ↦ ap (λ b. wrong (cause_number b)) w.bracketed-is ∙ closes_none c.args.depth.brackets c.args.own.now draft.letter (held draft.parameters) read m same none w.if-module-eq93.true
+      | then-module-eq93 w ↦ ap (λ b. wrong (cause_number b)) w.bracketed-is ∙ closes_none c.args.depth.brackets c.args.own.now draft.letter (held draft.parameters) read m same none w.if-module-eq93.true
       | else-module-eq93 w ↦ ap (λ b. wrong (cause_number b)) w.bracketed-is ∙ opens_too_deep c.args.depth.brackets c.args.own.now draft.letter (held draft.parameters) read m same none w.if-module-eq93.false
-      ])
+    ])
 
 pub returns-clause-told : goal.returns-clause-told
-returns-clause-told c = 
+returns-clause-told c =
     let draft = c.in_ok-draft.draft in
     let m = c.in_ok-module.module in
     let read : form c.args.own.now ≡ Some (symbol_with draft.letter (held draft.parameters)) = search rules in

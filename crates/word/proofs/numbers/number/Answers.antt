@@ -1,10 +1,7 @@
-use Rattle.std.proofs.Common.{rules, ◌≡◌, ◌<◌, ◌∙◌, sym, true, false, length, Some, ap, arith}
+use Rattle.std.proofs.Common.{rules, ◌≡◌, ◌∙◌, sym, ap}
 use Rattle.std.specs.Result.{result_ok}
 use Rattle.word.proofs.Digits.{is_text, below_ten_million, parsed, is_some, none}
 use Rattle.word.proofs.numbers.number.Goals as goal
-
-pub returns-then-not-is_number-clause-value : goal.returns-then-not-is_number-clause-value
-returns-then-not-is_number-clause-value c = sym (none c.args.text.now (sym c.if-not-is_number.ensures))
 
 pub returns-in_err-ok-clause-value : goal.returns-in_err-ok-clause-value
 returns-in_err-ok-clause-value c =

@@ -1,4 +1,4 @@
-use Rattle.std.proofs.Common.{suc, ◌+◌, length, take, drop, sym, ap, ◌∙◌, add-one, arith, rules}
+use Rattle.std.proofs.Common.{suc, ◌+◌, length, drop, sym, ap, ◌∙◌, add-one, arith, rules}
 use Rattle.std.proofs.lemmas.List.{take_all, take_rest, drop_all}
 use Rattle.word.specs.Text.{First}
 use Rattle.job.specs.Jobs.{lines_of}

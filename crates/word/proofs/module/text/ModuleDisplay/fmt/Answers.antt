@@ -4,12 +4,6 @@ use Rattle.word.proofs.Sound.{low, at_most_3, a_exact, b_exact, c_exact}
 use Rattle.word.proofs.Shown.{shown_0, shown_1, shown_2, shown_3}
 use Rattle.word.proofs.module.text.ModuleDisplay.fmt.Goals as goal
 
-pub returns-in-0-clause-writes : goal.returns-in-0-clause-writes
-returns-in-0-clause-writes g c =
-    let m = c.args.self.now in
-    λ p ok.
-    has_written_of_eq g.W.Write.write_str_gives _ _ _ _ (shown_0 m.letter m.count m.a m.b m.c (low m) c.in-0.is) (c.write.ensures.writes p ok)
-
 pub returns-in-1-clause-writes : goal.returns-in-1-clause-writes
 returns-in-1-clause-writes g c =
     let m = c.args.self.now in
