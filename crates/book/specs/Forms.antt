@@ -1,7 +1,7 @@
 -- The record of a form: three single names, of which the first `count` are its own.
 use Rattle.std.specs.Prelude.{ℕ, Bool, cond, ◌&&◌, ◌==◌, nat_le, nat_lt}
 use Rattle.word.specs.Symbols.{is_letter}
-use Rattle.expr.specs.Machine.{is_name}
+use Rattle.expr.specs.Records.{is_name}
 
 -- a name that counts is one of a–z, and one that does not is 0
 abbrev pub fits : Bool → ℕ → Bool

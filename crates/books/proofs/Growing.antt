@@ -13,7 +13,7 @@ use Rattle.expr.specs.declared.code.Code.{Code}
 use Rattle.expr.specs.declared.computed.Cause.{Cause}
 use Rattle.expr.specs.Values.{Expr, Env, Arguments, made, arguments}
 use Rattle.expr.specs.Codes.{decoded, latest}
-use Rattle.expr.specs.Machine.{cause_number, arguments_of}
+use Rattle.expr.specs.Records.{cause_number, arguments_of}
 use Rattle.expr.proofs.Ranges.{arguments_in_range}
 use Rattle.rules.specs.declared.piece.Piece.{Piece}
 use Rattle.book.specs.Rules.{Form, given, given_beside}
@@ -83,26 +83,33 @@ behind_one w c xs (grown v) = ap grown (append_assoc w (record { letter = c; par
 behind_one w c xs (fault n) = refl
 
 module _ (g : Env) (p : Piece) (ps : List Piece) (code part : List Code) (split : part ≡ take p.places code) where
-  pub one_grown : (w : List Symbol) (m : Module) → Grows g p part (Ok m) → behind (w ++ (symbol_of m ∷ [])) (successor g (pieces_from ps (drop p.places code))) ≡ behind w (successor g (pieces_from (p ∷ ps) code))
+  one_grown : (w : List Symbol) (m : Module) → Grows g p part (Ok m) → behind (w ++ (symbol_of m ∷ [])) (successor g (pieces_from ps (drop p.places code))) ≡ behind w (successor g (pieces_from (p ∷ ps) code))
   one_grown w m h =
       let o = successor g (pieces_from ps (drop p.places code)) in
       behind_one w m.letter (symbol_of m).params o
       ∙ (λ i. behind w (with_first (h.1 i) (sym h.0 i) o))
       ∙ ap (λ (cs : List Code). behind w (with_first p.letter (arguments g (latest p.count (decoded [] cs))) o)) split
 
-  pub one_spoilt : (w : List Symbol) (e : Cause) → Grows g p part (Err e) → behind w (successor g (pieces_from (p ∷ ps) code)) ≡ fault (cause_number e)
+  one_spoilt : (w : List Symbol) (e : Cause) → Grows g p part (Err e) → behind w (successor g (pieces_from (p ∷ ps) code)) ≡ fault (cause_number e)
   one_spoilt w e h =
       ap (λ (cs : List Code). behind w (with_first p.letter (arguments g (latest p.count (decoded [] cs))) (successor g (pieces_from ps (drop p.places code))))) (sym split)
       ∙ ap (λ (a : Arguments). behind w (with_first p.letter a (successor g (pieces_from ps (drop p.places code))))) h
 
--- the part of the code that is a piece's own
-pub part_is : (at n : ℕ) (code : List Code) → take (at + n - at) (drop at code) ≡ take n (drop at code)
-part_is at n code = let e : at + n - at ≡ n = omega arith in ap (λ k. take k (drop at code)) e
+-- of the part of the code that is a piece's own, n places from `at` on
+module _ (g : Env) (p : Piece) (ps : List Piece) (at n : ℕ) (own : n ≡ p.places) (code : List Code) (w : List Symbol) where
+  abbrev part : List Code
+  part = take (at + n - at) (drop at code)
 
-pub all_grown : (g : Env) (p : Piece) (ps : List Piece) (at : ℕ) (code : List Code) (w v : List Symbol) (m : Module) → v ≡ w ++ (symbol_of m ∷ []) → Grows g p (take (at + p.places - at) (drop at code)) (Ok m) → behind v (successor g (pieces_from ps (drop (at + p.places) code))) ≡ behind w (successor g (pieces_from (p ∷ ps) (drop at code)))
-all_grown g p ps at code w v m e h =
-    (λ i. behind (e i) (successor g (pieces_from ps (sym (drop-drop p.places at code) i))))
-    ∙ one_grown g p ps (drop at code) (take (at + p.places - at) (drop at code)) (part_is at p.places code) w m h
+  part_is : part ≡ take p.places (drop at code)
+  part_is = let e : at + n - at ≡ p.places = omega arith in ap (λ k. take k (drop at code)) e
+
+  pub all_grown : (v : List Symbol) (m : Module) → v ≡ w ++ (symbol_of m ∷ []) → Grows g p part (Ok m) → behind v (successor g (pieces_from ps (drop (at + n) code))) ≡ behind w (successor g (pieces_from (p ∷ ps) (drop at code)))
+  all_grown v m e h =
+      (λ i. behind (e i) (successor g (pieces_from ps ((ap (λ k. drop (at + k) code) own ∙ sym (drop-drop p.places at code)) i))))
+      ∙ one_grown g p ps (drop at code) part part_is w m h
+
+  pub all_spoilt : (e : Cause) → Grows g p part (Err e) → fault (cause_number e) ≡ behind w (successor g (pieces_from (p ∷ ps) (drop at code)))
+  all_spoilt e h = sym (one_spoilt g p ps (drop at code) part part_is w e h)
 
 pub pushed_map : (ms ns : List Module) (m : Module) → ns ≡ ms ++ (m ∷ []) → (map symbol_of ns ≡ map symbol_of ms ++ (symbol_of m ∷ [])) × (length ns ≡ length ms + 1)
 pushed_map ms ns m e = (ap (map symbol_of) e ∙ map_push symbol_of ms m, ap length e ∙ length_push ms m)

@@ -1,6 +1,7 @@
 -- A rule put into a book.
-use Rattle.std.proofs.Common.{◌≡◌, ℕ, zero, suc, ◌+◌, ◌<◌, ◌≤◌, Bool, true, false, cond, not, ◌&&◌, ◌||◌, eqb, ltb, leb, List, [], ◌∷◌, ◌++◌, length, take, drop, sym, refl, ap, ◌∙◌, arith, length-append, ltb-false, le-ltb, lt-ltb, le-leb, leb-true}
+use Rattle.std.proofs.Common.{◌≡◌, ℕ, zero, suc, ◌+◌, ◌<◌, ◌≤◌, Bool, true, false, cond, not, ◌&&◌, ◌||◌, eqb, ltb, leb, List, [], ◌∷◌, ◌++◌, length, take, drop, sym, refl, ap, ◌∙◌, arith, one-add, length-append, length-take, ltb-false, le-ltb, lt-ltb, le-leb, leb-true}
 use borrow.Author.Tests.{lt-leb}
+use Rattle.std.proofs.lemmas.List.Folds.{length-prefix_len}
 use Rattle.std.proofs.lemmas.List.{length-drop, take_all, take-append-le, drop-append-le, drop_at}
 use Rattle.std.proofs.lemmas.Bool.{and_parts, and_from}
 use Rattle.expr.specs.declared.code.Code.{Code}
@@ -45,9 +46,16 @@ new_rule cs d start r at m =
     λ i. rule_from (m.head i) (m.guard i) (m.pieces i) (part i)
 
 -- the rules with one more where it belongs
+spot_one : (h : Head) (r : StoredRule) (rs : List StoredRule) → spot h (r ∷ rs) ≡ cond (head_precedes h r.head) 0 (suc (spot h rs))
+spot_one h r rs = go (head_precedes h r.head)
+  where
+    go : (t : Bool) → cond (not t) (1 + spot h rs) 0 ≡ cond t 0 (suc (spot h rs))
+    go true = refl
+    go false = one-add (spot h rs)
+
 pub placed : (cs : List Code) (r : StoredRule) (rs : List StoredRule) → rules_in cs (take (spot r.head rs) rs ++ (r ∷ drop (spot r.head rs) rs)) ≡ with_rule (rule_in cs r) (rules_in cs rs)
 placed cs r [] = refl
-placed cs r (s ∷ rs) = go (head_precedes r.head s.head) (placed cs r rs)
+placed cs r (s ∷ rs) = ap (λ k. rules_in cs (take k (s ∷ rs) ++ (r ∷ drop k (s ∷ rs)))) (spot_one r.head s rs) ∙ go (head_precedes r.head s.head) (placed cs r rs)
   where
     u : Rule
     u = rule_in cs r
@@ -57,12 +65,7 @@ placed cs r (s ∷ rs) = go (head_precedes r.head s.head) (placed cs r rs)
     go false ih = ap (λ (l : List Rule). rule_in cs s ∷ l) ih
 
 pub spot_low : (h : Head) (rs : List StoredRule) → spot h rs ≤ length rs
-spot_low h [] = omega arith
-spot_low h (r ∷ rs) = go (head_precedes h r.head) (spot_low h rs)
-  where
-    go : (t : Bool) → spot h rs ≤ length rs → cond t 0 (suc (spot h rs)) ≤ suc (length rs)
-    go true ih = omega arith
-    go false ih = omega arith
+spot_low h rs = omega (arith, length-prefix_len (λ r. not (head_precedes h r.head)) rs, length-take (spot h rs) rs)
 
 pub same_number : (cs : List Code) (n : ℕ) (rs : List StoredRule) → numbered n rs ≡ holds_number n (rules_in cs rs)
 same_number cs n [] = refl

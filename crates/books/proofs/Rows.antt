@@ -4,6 +4,9 @@ use borrow.Rule.Slice.PartMut.{put_mid}
 use Rattle.std.proofs.lemmas.List.{drop_more, drop-take, length-drop, take-take, take_at, drop_at, take-set-le, take_more_set, drop-append-le, get_or-set_same, get_or-set_other}
 use Rattle.std.proofs.lemmas.Slice.{between_is, take-put_mid}
 use Rattle.std.proofs.lemmas.Bool.{eqb-true, eqb-false}
+use Rattle.std.specs.Bool.{MatchBool}
+use Rattle.std.specs.List.{list_any, HoldsAt, AllWithin}
+use Rattle.std.proofs.lemmas.List.Folds.{list_any_at, list_any_none}
 use Rattle.word.specs.Symbols.{among}
 
 pub all_same : {A : Type 0} (n : ℕ) (z : A) (i : ℕ) → get_or (replicate n z) i z ≡ z
@@ -102,3 +105,9 @@ noted c x xs row h = go (eqb c x) refl
         or_true true = refl
         or_true false = refl
     go false e = ap (λ (b : Bool). among c xs || b) (get_or-set_other row x c true false (eqb-false c x e))
+
+-- what `any` answers, as a test of the list
+pub any_is : {A : Type 0} (p : A → Bool) (xs : List A) (r : Bool) → MatchBool r ((k : ℕ) × (k < length xs) × HoldsAt (λ x. p x ≡ true) xs k) (AllWithin (λ x. p x ≡ false) xs 0 (length xs)) → r ≡ list_any p xs
+any_is p [] true h = absurd (omega (arith, h.1))
+any_is p (x ∷ xs) true h = sym (list_any_at p (x ∷ xs) h.0 x h.1 (h.2 x))
+any_is p xs false h = sym (list_any_none p xs (λ k d l. h k d (omega arith) l))

@@ -1,5 +1,6 @@
 -- The order of rules by their heads. Internal.
-use Rattle.std.specs.Prelude.{ℕ, suc, Bool, false, cond, ◌&&◌, ◌||◌, List, [], ◌∷◌, ◌==◌, nat_lt}
+use Rattle.std.specs.Prelude.{ℕ, Bool, ◌&&◌, ◌||◌, List, ◌==◌, nat_lt}
+use Rattle.std.specs.List.{list_any, position_or_len}
 use Rattle.std.specs.Option.{option_map}
 use Rattle.rules.specs.declared.head.Head.{Head}
 use Rattle.book.specs.Records.{form_of}
@@ -14,10 +15,8 @@ head_precedes h k = nat_lt (head_rank h) (head_rank k) || (head_rank h == head_r
 
 -- where a rule of this head belongs
 abbrev pub spot : Head → List Rule → ℕ
-spot h [] = 0
-spot h (r ∷ rs) = cond (head_precedes h r.head) 0 (suc (spot h rs))
+spot h rs = position_or_len (λ r. head_precedes h r.head) rs
 
 -- whether one of some rules has a printed number
 abbrev pub numbered : ℕ → List Rule → Bool
-numbered n [] = false
-numbered n (r ∷ rs) = n == r.head.printed || numbered n rs
+numbered n rs = list_any (λ r. n == r.head.printed) rs

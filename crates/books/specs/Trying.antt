@@ -8,17 +8,16 @@ use Rattle.expr.specs.declared.code.Code.{Code}
 use Rattle.expr.specs.declared.computed.Cause.{Cause}
 use Rattle.expr.specs.Values.{Env, arguments, made, spoilt}
 use Rattle.expr.specs.Codes.{decoded, latest}
-use Rattle.expr.specs.Machine.{cause_number}
+use Rattle.expr.specs.Records.{cause_number}
 use Rattle.rules.specs.declared.piece.Piece.{Piece}
 use Rattle.rules.specs.declared.head.Head.{Head}
 use Rattle.book.specs.Rules.{Rule, agrees, beside, given, given_beside}
 use Rattle.book.specs.Records.{form_of}
 use Rattle.books.specs.declared.modules.Modules.{Modules}
-use Rattle.books.specs.declared.outcome.Outcome.{Outcome as Answer}
+use Rattle.books.specs.declared.growth.Growth.{Growth}
 use Rattle.book.specs.Winners.{says, decides}
 use Rattle.books.specs.Outcomes.{Outcome, itself, grown, fault, by_verdict}
 use Rattle.books.specs.Few.{symbols_in}
-use Rattle.books.specs.Grown.{outcome_of}
 
 abbrev pub head_fits : Option Symbol → Symbol → Option Symbol → Head → Bool
 head_fits l s r h = agrees (form_of h.predecessor) s && (beside (option_map form_of h.before) l && beside (option_map form_of h.behind) r)
@@ -45,7 +44,12 @@ abbrev pub Grown : Outcome → Result Modules Cause → Type 0
 Grown o (Ok ms) = grown (symbols_in ms) ≡ o
 Grown o (Err e) = fault (cause_number e) ≡ o
 
--- the rule u, tried at the module s between its neighbours, decides nothing, or the outcome
-abbrev pub Tried : Option Symbol → Symbol → Option Symbol → Rule → Option Answer → Type 0
-Tried l s r u None = decides l s r u ≡ false
-Tried l s r u (Some o) = (decides l s r u ≡ true) × (outcome_of o ≡ by_verdict l s r (says l s r u) u)
+abbrev pub grown_of : Result Growth Cause → Outcome
+grown_of (Ok g) = grown (symbols_in g.modules)
+grown_of (Err e) = fault (cause_number e)
+
+-- the rule u, tried at the module s between its neighbours, decides nothing, or what becomes of the module
+abbrev pub Tried : Option Symbol → Symbol → Option Symbol → Rule → Result (Option Growth) Cause → Type 0
+Tried l s r u (Ok None) = decides l s r u ≡ false
+Tried l s r u (Ok (Some g)) = (decides l s r u ≡ true) × (grown (symbols_in g.modules) ≡ by_verdict l s r (says l s r u) u)
+Tried l s r u (Err e) = (decides l s r u ≡ true) × (fault (cause_number e) ≡ by_verdict l s r (says l s r u) u)

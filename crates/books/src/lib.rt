@@ -8,6 +8,6 @@ pub mod growth;
 pub mod ignored;
 pub mod modules;
 pub mod open_book;
-pub mod outcome;
 pub mod rule;
 pub mod rule_list;
+pub mod site;

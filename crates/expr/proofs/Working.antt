@@ -1,23 +1,20 @@
 -- Code worked out on values is the expressions that it lays out, worked out.
-use Rattle.std.proofs.Common.{◌≡◌, ℕ, suc, ◌+◌, ◌-◌, ◌<◌, ◌≤◌, min, ltb, ◌⊎◌, List, [], ◌∷◌, ◌++◌, map, length, get_or, take, drop, pos, sym, refl, ap, ◌∙◌, inl, inr, arith, length-take}
-use native.Mathlib.Nat.{sub-zero}
-use Rattle.std.proofs.lemmas.List.{length-map, at_drop_more, take_all}
-use Rattle.std.proofs.lemmas.Bool.{cond-true, lt-ltb, cases_lt}
+use Rattle.std.proofs.Common.{◌≡◌, ℕ, suc, ◌+◌, ◌<◌, ◌≤◌, ltb, List, [], ◌∷◌, ◌++◌, map, length, take, pos, sym, refl, ap, ◌∙◌, add-one, arith, length-take}
+use Rattle.std.proofs.lemmas.List.{length-map}
+use Rattle.std.proofs.lemmas.Bool.{cond-true, lt-ltb}
 use Rattle.expr.specs.declared.code.Code.{Code}
 use Rattle.expr.specs.declared.code.Code.TheVariants.{Blank, Number, Name, Negate, Add, Subtract, Multiply, Divide, Compare}
-use Rattle.expr.specs.declared.computed.Judged.{Judged}
-use Rattle.expr.specs.declared.computed.Judged.TheVariants.{Passes, Fails, Fault}
-use Rattle.expr.specs.Values.{Expr, number, Value, is, Env, value, negated, Comparison, Verdict, passes, judged, then, guard}
+use Rattle.expr.specs.Values.{Expr, number, Value, is, Env, value, negated, Comparison, Verdict, passes, fails, faults, judged, then, guard}
 use Rattle.expr.specs.Codes.{top, below, stacked, decoded, noted, comparisons}
-use Rattle.expr.specs.Machine.{verdict_of, pushed, binary, step, decides, work, verdict}
+use Rattle.expr.specs.Machine.{pushed, binary, step, decides}
 
--- no more than 200 places
-pub cut_short : (code : List Code) (n : ℕ) → n ≡ min (length code) 200 → take (n - 0) code ≡ take 200 code
-cut_short code n short = ap (λ k. take k code) (sub-zero n) ∙ go (cases_lt (length code) 200)
-  where
-    go : (length code < 200) ⊎ (200 ≤ length code) → take n code ≡ take 200 code
-    go (inl h) = take_all n code (omega arith) ∙ sym (take_all 200 code (omega arith))
-    go (inr h) = let e : n ≡ 200 = omega arith in ap (λ k. take k code) e
+abbrev pub work : Env → List Value → List Code → List Value
+work g vs [] = vs
+work g vs (c ∷ cs) = work g (step g vs c) cs
+
+abbrev pub verdict : Env → List Value → List Code → Verdict
+verdict g vs [] = passes
+verdict g vs (c ∷ cs) = then (decides vs c) (verdict g (step g vs c) cs)
 
 module _ (g : Env) where
   abbrev vals : List Expr → List Value
@@ -90,30 +87,29 @@ module _ (g : Env) where
       ap (λ (vs : List Value). then (decides (vals st) c) (verdict g vs cs)) (step_stacked st c (omega arith))
       ∙ judges st c _ (comparisons (stacked st c) cs) (verdict_decoded (stacked st c) cs (omega (arith, grows st c)))
 
-  -- along the places of a list of code
-  module _ (l : List Code) (i : ℕ) (vs : List Value) (more : i < length l) where
-    abbrev here : Code
-    here = get_or l i Blank
+  -- of the first 200 places of code
+  pub work_first : (code : List Code) → work g [] (take 200 code) ≡ map (value g) (decoded [] (take 200 code))
+  work_first code = work_decoded [] (take 200 code) (omega (arith, length-take 200 code))
 
-    opened : verdict g vs (drop i l) ≡ then (decides vs here) (verdict g (step g vs here) (drop (i + 1) l))
-    opened = at_drop_more (verdict g vs) l i Blank more
+  pub verdict_first : (code : List Code) → verdict g [] (take 200 code) ≡ guard g (comparisons [] (take 200 code))
+  verdict_first code = verdict_decoded [] (take 200 code) (omega (arith, length-take 200 code))
 
-    pub one_on : (ws : List Value) → ws ≡ step g vs here → passes ≡ decides vs here → verdict g ws (drop (i + 1) l) ≡ verdict g vs (drop i l)
-    one_on ws after go =
-        ap (λ (xs : List Value). verdict g xs (drop (i + 1) l)) after
-        ∙ ap (λ (v : Verdict). then v (verdict g (step g vs here) (drop (i + 1) l))) go
-        ∙ sym opened
+  -- one place further, where the first n of the places cs are left
+  module _ (vs : List Value) (c : Code) (cs ds : List Code) (n m : ℕ) (next : (cs ≡ c ∷ ds) × (m + 1 ≡ n)) where
+    taken : take n cs ≡ c ∷ take m ds
+    taken = (λ i. take (sym next.1 i) (next.0 i)) ∙ ap (λ k. take k (c ∷ ds)) (add-one m)
 
-    pub stops : (r : Judged) → (r ≡ Passes → ⊥) → verdict_of r ≡ decides vs here → verdict_of r ≡ verdict g vs (drop i l)
-    stops r n e = sym (last r n (verdict g (step g vs here) (drop (i + 1) l))) ∙ ap (λ (v : Verdict). then v (verdict g (step g vs here) (drop (i + 1) l))) e ∙ sym opened
-      where
-        last : (q : Judged) → (q ≡ Passes → ⊥) → (v : Verdict) → then (verdict_of q) v ≡ verdict_of q
-        last Passes m v = absurd (m refl)
-        last Fails m v = refl
-        last (Fault c) m v = refl
+    pub works_on : (ws : List Value) → ws ≡ step g vs c → work g ws (take m ds) ≡ work g vs (take n cs)
+    works_on ws after = ap (λ (xs : List Value). work g xs (take m ds)) after ∙ sym (ap (work g vs) taken)
 
-  -- of code as it is cut to 200 places
-  pub of_code : (code : List Code) (n : ℕ) → n ≡ min (length code) 200 → verdict g [] (take (n - 0) code) ≡ guard g (comparisons [] (take 200 code))
-  of_code code n short =
-      ap (λ (l : List Code). verdict g [] l) (cut_short code n short)
-      ∙ verdict_decoded [] (take 200 code) (omega (arith, length-take 200 code))
+    decided : (v : Verdict) → v ≡ decides vs c → then v (verdict g (step g vs c) (take m ds)) ≡ verdict g vs (take n cs)
+    decided v e = ap (λ (w : Verdict). then w (verdict g (step g vs c) (take m ds))) e ∙ sym (ap (verdict g vs) taken)
+
+    pub goes_on : (ws : List Value) → ws ≡ step g vs c → passes ≡ decides vs c → verdict g ws (take m ds) ≡ verdict g vs (take n cs)
+    goes_on ws after e = ap (λ (xs : List Value). verdict g xs (take m ds)) after ∙ decided passes e
+
+    pub fails_at : fails ≡ decides vs c → fails ≡ verdict g vs (take n cs)
+    fails_at = decided fails
+
+    pub faults_at : (k : ℕ) → faults k ≡ decides vs c → faults k ≡ verdict g vs (take n cs)
+    faults_at k = decided (faults k)

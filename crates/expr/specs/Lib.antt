@@ -1,4 +1,5 @@
 pub mod Values
 pub mod Codes
+pub mod Records
 pub mod Machine
 pub mod Examples

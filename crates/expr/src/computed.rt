@@ -1,30 +1,17 @@
 // Values, and the faults in their place.
-ghost use Rattle.std.specs.Prelude.{◌≡◌, ◌+ℤ◌, ◌-ℤ◌, ◌*ℤ◌};
-ghost use Rattle.expr.specs.Values.{ranged, divided, both, negated, compared, judged};
-ghost use Rattle.expr.specs.Machine.{value_of, verdict_of, cause_number};
+ghost use Rattle.std.specs.Prelude.{◌≡◌};
+ghost use Rattle.expr.specs.Values.{ranged, negated, compared, judged};
+ghost use Rattle.expr.specs.Records.{value_of, verdict_of, cause_number};
+ghost use Rattle.expr.specs.Machine.{binary};
 
-use super::code::Relation;
+use super::code::{Code, Relation};
+use word::letters::in_range;
 
 /// Why an expression has no value.
 #[derive(Clone, Copy, PartialEq, Eq, Debug)]
 pub enum Cause {
-    DividedByZero,
-    OutOfRange,
-}
-
-/// What an expression comes to.
-#[derive(Clone, Copy)]
-pub enum Computed {
-    Number(i32),
-    Fault(Cause),
-}
-
-/// What a guard comes to.
-#[derive(Clone, Copy)]
-pub enum Judged {
-    Passes,
-    Fails,
-    Fault(Cause),
+    DividedByZero = 31,
+    OutOfRange = 32,
 }
 
 impl Cause {
@@ -32,82 +19,40 @@ impl Cause {
     pub fn number(self) -> u8
         ensures { result ≡ cause_number self }
     {
-        match self {
-            Cause::DividedByZero => 31,
-            Cause::OutOfRange => 32,
-        }
+        self as u8
     }
 }
 
 // A number that lies in the range, or a fault.
-pub fn ranged(n: i64) -> Computed
+pub fn ranged(n: i64) -> Result<i32, Cause>
     ensures { value_of result ≡ ranged n }
 {
-    if -1_000_000 <= n && n <= 1_000_000 {
-        Computed::Number(n as i32)
-    } else {
-        Computed::Fault(Cause::OutOfRange)
+    match i32::try_from(n) {
+        Ok(n) if in_range(n) => Ok(n),
+        _ => Err(Cause::OutOfRange),
     }
 }
 
-// The quotient, rounded toward zero.
-fn divided(x: i32, y: i32) -> Computed
-    ensures { value_of result ≡ divided x y }
+pub fn negated(x: Result<i32, Cause>) -> Result<i32, Cause>
+    ensures { value_of result ≡ negated (value_of x) }
 {
-    if y == 0 {
-        return Computed::Fault(Cause::DividedByZero);
-    }
-    ranged(x as i64 / y as i64)
+    ranged(-i64::from(x?))
 }
 
-impl Computed {
-    pub fn negated(self) -> Computed
-        ensures { value_of result ≡ negated (value_of self) }
-    {
-        match self {
-            Computed::Number(x) => ranged(-(x as i64)),
-            fault => fault,
-        }
-    }
-
-    pub fn plus(self, other: Computed) -> Computed
-        ensures { value_of result ≡ both (value_of self) (value_of other) (λ x y. ranged (x +ℤ y)) }
-    {
-        match (self, other) {
-            (Computed::Number(x), Computed::Number(y)) => ranged(x as i64 + y as i64),
-            (Computed::Number(_), fault) => fault,
-            (fault, _) => fault,
-        }
-    }
-
-    pub fn minus(self, other: Computed) -> Computed
-        ensures { value_of result ≡ both (value_of self) (value_of other) (λ x y. ranged (x -ℤ y)) }
-    {
-        match (self, other) {
-            (Computed::Number(x), Computed::Number(y)) => ranged(x as i64 - y as i64),
-            (Computed::Number(_), fault) => fault,
-            (fault, _) => fault,
-        }
-    }
-
-    pub fn times(self, other: Computed) -> Computed
-        ensures { value_of result ≡ both (value_of self) (value_of other) (λ x y. ranged (x *ℤ y)) }
-    {
-        match (self, other) {
-            (Computed::Number(x), Computed::Number(y)) => ranged(x as i64 * y as i64),
-            (Computed::Number(_), fault) => fault,
-            (fault, _) => fault,
-        }
-    }
-
-    pub fn over(self, other: Computed) -> Computed
-        ensures { value_of result ≡ both (value_of self) (value_of other) divided }
-    {
-        match (self, other) {
-            (Computed::Number(x), Computed::Number(y)) => divided(x, y),
-            (Computed::Number(_), fault) => fault,
-            (fault, _) => fault,
-        }
+// Two operands and the sign between them; a place of code that is no such sign keeps the first. The quotient is rounded toward
+// zero.
+pub fn joined(sign: Code, x: Result<i32, Cause>, y: Result<i32, Cause>) -> Result<i32, Cause>
+    ensures { value_of result ≡ binary sign (value_of x) (value_of y) }
+{
+    let x = i64::from(x?);
+    let y = i64::from(y?);
+    match sign {
+        Code::Add => ranged(x + y),
+        Code::Subtract => ranged(x - y),
+        Code::Multiply => ranged(x * y),
+        Code::Divide if y == 0 => Err(Cause::DividedByZero),
+        Code::Divide => ranged(x / y),
+        _ => ranged(x),
     }
 }
 
@@ -126,18 +71,12 @@ fn compared(relation: Relation, x: i32, y: i32) -> bool
 }
 
 // What a comparison of two values comes to.
-pub fn judge(relation: Relation, x: Computed, y: Computed) -> Judged
+pub fn judge(
+    relation: Relation,
+    x: Result<i32, Cause>,
+    y: Result<i32, Cause>,
+) -> Result<bool, Cause>
     ensures { verdict_of result ≡ judged relation (value_of x) (value_of y) }
 {
-    match (x, y) {
-        (Computed::Number(x), Computed::Number(y)) => {
-            if compared(relation, x, y) {
-                Judged::Passes
-            } else {
-                Judged::Fails
-            }
-        }
-        (Computed::Number(_), Computed::Fault(cause)) => Judged::Fault(cause),
-        (Computed::Fault(cause), _) => Judged::Fault(cause),
-    }
+    Ok(compared(relation, x?, y?))
 }

@@ -6,7 +6,7 @@ ghost use Rattle.expr.specs.Examples.{Examples, ReadsBack};
 pub mod code;
 pub mod computed;
 pub mod names;
-pub mod stack;
+mod stack;
 
 /// The worked examples stand.
 pub fn examples_stand()

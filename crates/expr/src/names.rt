@@ -2,6 +2,7 @@
 ghost use Rattle.std.specs.Prelude.{◌≡◌, length};
 
 pub mod table;
+pub mod work;
 
 /// The value of each name, a–z; 0 where none is given.
 #[derive(Clone, Copy)]

@@ -1,22 +1,13 @@
-ghost use Rattle.std.specs.Prelude.{◌≡◌, ℕ, ◌&&◌, if◌then◌else◌, ◌==◌};
+ghost use Rattle.std.specs.Prelude.{◌≡◌, ℕ};
 ghost use Rattle.std.specs.Option.{option_map};
 ghost use Rattle.word.specs.Records.{symbol_of};
-ghost use Rattle.expr.specs.Machine.{env_of, is_name};
+ghost use Rattle.expr.specs.Records.{env_of};
 ghost use Rattle.book.specs.Rules.{agrees, given, beside, given_beside};
 ghost use Rattle.book.specs.Records.{form_of};
 
 use super::Form;
 use expr::names::Names;
 use word::module::Module;
-
-// Where there is both a name and a value for it, the name stands for the value from now on.
-fn bind_if(named: bool, valued: bool, name: u8, value: i32, names: &mut Names)
-    ensures { (x : ℕ) → env_of names.new x ≡ (if (named && valued) && (is_name name && x == name) then value else env_of names.old x) }
-{
-    if named && valued {
-        names.bind(name, value);
-    }
-}
 
 impl Form {
     /// Whether a module has the form's letter and as many parameters as the form has names.
@@ -30,9 +21,16 @@ impl Form {
     pub fn give(&self, symbol: Module, names: &mut Names)
         ensures { (x : ℕ) → env_of names.new x ≡ given (form_of self.now).names (symbol_of symbol).params (env_of names.old) x }
     {
-        bind_if(self.count > 2, symbol.count > 2, self.c, symbol.c, names);
-        bind_if(self.count > 1, symbol.count > 1, self.b, symbol.b, names);
-        bind_if(self.count > 0, symbol.count > 0, self.a, symbol.a, names);
+        let count = self.count.min(symbol.count);
+        if count > 2 {
+            names.bind(self.c, symbol.c);
+        }
+        if count > 1 {
+            names.bind(self.b, symbol.b);
+        }
+        if count > 0 {
+            names.bind(self.a, symbol.a);
+        }
     }
 }
 
@@ -40,22 +38,14 @@ impl Form {
 pub fn beside(form: Option<Form>, neighbour: Option<Module>) -> bool
     ensures { result ≡ beside (option_map form_of form) (option_map symbol_of neighbour) }
 {
-    match form {
-        None => true,
-        Some(form) => match neighbour {
-            None => false,
-            Some(symbol) => form.agrees(symbol),
-        },
-    }
+    form.is_none_or(|form| neighbour.is_some_and(|symbol| form.agrees(symbol)))
 }
 
 /// From now on the names of a side stand for its neighbour's parameters.
 pub fn give_beside(form: Option<Form>, neighbour: Option<Module>, names: &mut Names)
     ensures { (x : ℕ) → env_of names.new x ≡ given_beside (option_map form_of form) (option_map symbol_of neighbour) (env_of names.old) x }
 {
-    if let Some(form) = form {
-        if let Some(symbol) = neighbour {
-            form.give(symbol, names);
-        }
+    if let (Some(form), Some(symbol)) = (form, neighbour) {
+        form.give(symbol, names);
     }
 }

@@ -9,8 +9,10 @@ ghost use Rattle.books.specs.Grown.{outcome_of};
 ghost use Rattle.books.specs.Kinds.{closed_book};
 
 use super::super::contents::Contents;
-use super::super::outcome::Outcome;
+use super::super::growth::Growth;
+use super::super::site::Site;
 use super::ClosedBook;
+use expr::computed::Cause;
 use word::module::Module;
 
 impl ClosedBook {
@@ -21,13 +23,14 @@ impl ClosedBook {
         ClosedBook { contents }
     }
 
-    /// What becomes of a module between its neighbours. Of the rules that fit, the one with more neighbours grows; then left
-    /// before right; then the lower number.
-    pub fn becomes(&self, left: Option<Module>, symbol: Module, right: Option<Module>) -> Outcome
-        ensures value { outcome_of result ≡ becomes (option_map symbol_of left) (symbol_of symbol) (option_map symbol_of right) (closed_book self.now).rules }
-        ensures label { Label (closed_book self.now).rules (option_map symbol_of left) (symbol_of symbol) (option_map symbol_of right) }
+    /// What becomes of a module between its neighbours: it grows to the modules of a successor, or a fault ends the word, or
+    /// there is none and it stays as it is. Of the rules that fit, the one with more neighbours grows; then left before right;
+    /// then the lower number.
+    pub fn becomes(&self, site: Site) -> Result<Option<Growth>, Cause>
+        ensures value { outcome_of result ≡ becomes (option_map symbol_of site.left) (symbol_of site.module) (option_map symbol_of site.right) (closed_book self.now).rules }
+        ensures label { Label (closed_book self.now).rules (option_map symbol_of site.left) (symbol_of site.module) (option_map symbol_of site.right) }
     {
-        self.contents.becomes(left, symbol, right)
+        self.contents.becomes(site)
     }
 
     /// Whether a rule for this letter and so many parameters names a neighbour on the right.

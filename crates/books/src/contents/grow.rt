@@ -6,39 +6,33 @@ ghost use Rattle.books.specs.Outcomes.{becomes};
 ghost use Rattle.books.specs.Contents.{book_in};
 ghost use Rattle.books.specs.Grown.{outcome_of};
 
-use super::super::outcome::Outcome;
-use super::super::rule::fit::looks_right;
+use super::super::growth::Growth;
+use super::super::site::Site;
 use super::Contents;
+use expr::computed::Cause;
 use word::module::Module;
 
 impl Contents {
     // What becomes of a module between its neighbours: rules are tried in their order.
-    pub(crate) fn becomes(
-        &self,
-        left: Option<Module>,
-        symbol: Module,
-        right: Option<Module>,
-    ) -> Outcome
-        ensures { outcome_of result ≡ becomes (option_map symbol_of left) (symbol_of symbol) (option_map symbol_of right) (book_in self.now).rules }
+    pub(crate) fn becomes(&self, site: Site) -> Result<Option<Growth>, Cause>
+        ensures { outcome_of result ≡ becomes (option_map symbol_of site.left) (symbol_of site.module) (option_map symbol_of site.right) (book_in self.now).rules }
     {
         for rule in self.rules.filled() {
-            if let Some(outcome) = rule.try_at(&self.code, left, symbol, right) {
-                return outcome;
+            if let Some(growth) = rule.try_at(&self.code, site)? {
+                return Ok(Some(growth));
             }
         }
-        Outcome::Itself
+        Ok(None)
     }
 
     // Whether a rule for this letter and so many parameters names a neighbour on the right.
     pub(crate) fn looks_ahead(&self, symbol: Module) -> bool
         ensures { result ≡ looks_ahead (symbol_of symbol) (book_in self.now).rules }
     {
-        for rule in self.rules.filled() {
-            if looks_right(rule.head(), symbol) {
-                return true;
-            }
-        }
-        false
+        self.rules
+            .filled()
+            .iter()
+            .any(|rule| rule.looks_right(symbol))
     }
 
     // Whether a letter is ignored.

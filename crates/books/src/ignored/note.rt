@@ -15,7 +15,7 @@ impl Ignored {
     pub fn has(&self, letter: u8) -> bool
         ensures { result ≡ ignored_in self.now letter }
     {
-        self.row[letter as usize]
+        self.row[usize::from(letter)]
     }
 
     /// Some letters more.
@@ -23,7 +23,7 @@ impl Ignored {
         ensures { (c : ℕ) → ignored_in self.new c ≡ (among c letters.now || ignored_in self.old c) }
     {
         for letter in letters {
-            self.row[*letter as usize] = true;
+            self.row[usize::from(*letter)] = true;
         }
     }
 }

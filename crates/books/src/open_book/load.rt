@@ -45,10 +45,8 @@ impl OpenBook {
         ensures answer { answer_number result ≡ refused (open_book self.old) (rule (rule_of draft.now)) }
         ensures after { MatchResult result (λ _. open_book self.new ≡ with_entry (rule (rule_of draft.now)) (open_book self.old)) (λ _. open_book self.new ≡ open_book self.old) }
     {
-        match draft.judge() {
-            Ok(()) => self.contents.place(draft),
-            Err(refusal) => Err(refusal),
-        }
+        draft.judge()?;
+        self.contents.place(draft)
     }
 
     /// The book with just these rules and ignored letters, which takes no more lines.

@@ -4,23 +4,20 @@ ghost use Rattle.std.specs.Option.{option_map};
 ghost use Rattle.word.specs.Records.{symbol_of};
 ghost use Rattle.expr.specs.Values.{guard, arguments};
 ghost use Rattle.expr.specs.Codes.{comparisons, decoded, latest};
-ghost use Rattle.expr.specs.Machine.{env_of, verdict_of, arguments_of, Spare};
+ghost use Rattle.expr.specs.Records.{env_of, verdict_of, arguments_of, Spare};
 ghost use Rattle.rules.specs.Records.{pieces_from, places_in};
 ghost use Rattle.books.specs.Outcomes.{successor};
-ghost use Rattle.books.specs.Grown.{outcome_of};
 ghost use Rattle.books.specs.Stored.{code_held, rule_in};
-ghost use Rattle.books.specs.Trying.{Grows, Grown, Tried};
+ghost use Rattle.books.specs.Trying.{Grows, Grown, grown_of, Tried};
 
 use super::super::code_places::CodePlaces;
 use super::super::growth::Growth;
 use super::super::modules::Modules;
-use super::super::outcome::Outcome;
+use super::super::site::Site;
 use super::Rule;
-use super::fit::{head_fits, head_names};
 use expr::code::Code;
-use expr::computed::{Cause, Judged};
+use expr::computed::Cause;
 use expr::names::Names;
-use expr::stack::Stack;
 use rules::piece::Piece;
 use word::module::Module;
 
@@ -33,7 +30,7 @@ fn worked(piece: &Piece, code: &[Code], names: &Names) -> Result<(i32, i32, i32)
     if piece.count == 0 {
         return Ok((0, 0, 0));
     }
-    Stack::new().arguments(code, piece.count, names)
+    names.arguments(code, piece.count)
 }
 
 // One module of a successor, its arguments worked out.
@@ -42,16 +39,14 @@ fn grow_piece(piece: &Piece, code: &[Code], names: &Names) -> Result<Module, Cau
     ensures { Grows (env_of names.now) piece.now code.now result }
 {
     let Piece { letter, count, .. } = *piece;
-    match worked(piece, code, names) {
-        Ok((a, b, c)) => Ok(Module {
-            letter,
-            count,
-            a,
-            b,
-            c,
-        }),
-        Err(cause) => Err(cause),
-    }
+    let (a, b, c) = worked(piece, code, names)?;
+    Ok(Module {
+        letter,
+        count,
+        a,
+        b,
+        c,
+    })
 }
 
 // What some pieces grow to, one after the other.
@@ -63,11 +58,8 @@ fn grow_pieces(pieces: &[Piece], code: &[Code], names: &Names) -> Result<Modules
     let mut modules = Modules::new();
     let mut at = 0;
     for piece in pieces {
-        let end = at + piece.places as usize;
-        match grow_piece(piece, &code[at..end], names) {
-            Ok(symbol) => modules.push(symbol),
-            Err(cause) => return Err(cause),
-        }
+        let end = at + usize::from(piece.places);
+        modules.push(grow_piece(piece, &code[at..end], names)?);
         at = end;
     }
     Ok(modules)
@@ -75,51 +67,43 @@ fn grow_pieces(pieces: &[Piece], code: &[Code], names: &Names) -> Result<Modules
 
 impl Rule {
     // What the guard comes to.
-    pub(crate) fn says(&self, code: &[Code], names: &Names) -> Judged
+    pub(crate) fn says(&self, code: &[Code], names: &Names) -> Result<bool, Cause>
         requires { self.now.guard ≤ length code.now }
         ensures { verdict_of result ≡ guard (env_of names.now) (comparisons [] (take self.now.guard code.now)) }
     {
         if self.guard == 0 {
-            return Judged::Passes;
+            return Ok(true);
         }
-        Stack::new().guard(&code[0..self.guard as usize], names)
+        names.guard(&code[0..usize::from(self.guard)])
     }
 
     // What the successor grows to.
-    pub(crate) fn grow(&self, code: &[Code], names: &Names) -> Outcome
+    pub(crate) fn grow(&self, code: &[Code], names: &Names) -> Result<Growth, Cause>
         requires { self.now.size ≤ length code.now }
-        ensures { outcome_of result ≡ successor (env_of names.now) (pieces_from (take self.now.count self.now.pieces) (drop self.now.guard code.now)) }
+        ensures { grown_of result ≡ successor (env_of names.now) (pieces_from (take self.now.count self.now.pieces) (drop self.now.guard code.now)) }
     {
         let pieces = &self.pieces[0..self.count];
-        match grow_pieces(pieces, &code[self.guard as usize..], names) {
-            Ok(modules) => Outcome::Grown(Growth {
-                modules,
-                depth: self.depth,
-            }),
-            Err(cause) => Outcome::Fault(cause),
-        }
+        let modules = grow_pieces(pieces, &code[usize::from(self.guard)..], names)?;
+        Ok(Growth {
+            modules,
+            depth: self.depth,
+        })
     }
 
-    // What becomes of a module between its neighbours by this rule, if it decides there.
-    pub(crate) fn try_at(
-        &self,
-        book: &CodePlaces,
-        left: Option<Module>,
-        symbol: Module,
-        right: Option<Module>,
-    ) -> Option<Outcome>
+    // What becomes of a module between its neighbours by this rule; none where it does not decide there.
+    pub(crate) fn try_at(&self, book: &CodePlaces, site: Site) -> Result<Option<Growth>, Cause>
         requires { self.now.start + self.now.size ≤ length (code_held book.now) }
-        ensures { Tried (option_map symbol_of left) (symbol_of symbol) (option_map symbol_of right) (rule_in (code_held book.now) self.now) result }
+        ensures { Tried (option_map symbol_of site.left) (symbol_of site.module) (option_map symbol_of site.right) (rule_in (code_held book.now) self.now) result }
     {
-        if !head_fits(&self.head, left, symbol, right) {
-            return None;
+        if !self.fits(site) {
+            return Ok(None);
         }
-        let names = head_names(&self.head, left, symbol, right);
+        let names = self.names(site);
         let code = book.part(self.start, self.size);
-        match self.says(code, &names) {
-            Judged::Passes => Some(self.grow(code, &names)),
-            Judged::Fails => None,
-            Judged::Fault(cause) => Some(Outcome::Fault(cause)),
+        if !self.says(code, &names)? {
+            return Ok(None);
         }
+        let growth = self.grow(code, &names)?;
+        Ok(Some(growth))
     }
 }

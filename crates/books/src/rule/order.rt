@@ -21,31 +21,22 @@ fn rank(head: &Head) -> u8
 fn precedes(head: &Head, other: &Head) -> bool
     ensures { result ≡ head_precedes head.now other.now }
 {
-    let first = rank(head);
-    let second = rank(other);
-    first < second || first == second && head.printed < other.printed
+    (rank(head), head.printed) < (rank(other), other.printed)
 }
 
 // Where a rule of this head belongs among some rules.
 pub(crate) fn spot(head: &Head, rules: &[Rule]) -> usize
     ensures { result ≡ spot head.now rules.now }
 {
-    for (i, rule) in rules.iter().enumerate() {
-        if precedes(head, &rule.head) {
-            return i;
-        }
-    }
-    rules.len()
+    rules
+        .iter()
+        .position(|rule| precedes(head, &rule.head))
+        .unwrap_or(rules.len())
 }
 
 // Whether one of some rules has this printed number.
 pub(crate) fn is_numbered(number: u32, rules: &[Rule]) -> bool
     ensures { result ≡ numbered number rules.now }
 {
-    for rule in rules {
-        if rule.head.printed == number {
-            return true;
-        }
-    }
-    false
+    rules.iter().any(|rule| number == rule.head.printed)
 }

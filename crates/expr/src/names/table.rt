@@ -1,5 +1,5 @@
 ghost use Rattle.std.specs.Prelude.{◌≡◌, ℕ, ◌&&◌, pos, if◌then◌else◌, ◌==◌};
-ghost use Rattle.expr.specs.Machine.{env_of, is_name};
+ghost use Rattle.expr.specs.Records.{env_of, is_name};
 
 use super::Names;
 
@@ -15,8 +15,8 @@ impl Names {
     pub fn bind(&mut self, name: u8, value: i32)
         ensures { (x : ℕ) → env_of self.new x ≡ (if is_name name && x == name then value else env_of self.old x) }
     {
-        if b'a' <= name && name <= b'z' {
-            self.values[(name - b'a') as usize] = value;
+        if name.is_ascii_lowercase() {
+            self.values[usize::from(name - b'a')] = value;
         }
     }
 
@@ -24,8 +24,8 @@ impl Names {
     pub fn value(&self, name: u8) -> i32
         ensures { result ≡ env_of self.now name }
     {
-        if b'a' <= name && name <= b'z' {
-            self.values[(name - b'a') as usize]
+        if name.is_ascii_lowercase() {
+            self.values[usize::from(name - b'a')]
         } else {
             0
         }

@@ -14,7 +14,7 @@ use super::super::right::Right;
 use super::super::window::fill::depth_after;
 use super::Rewriter;
 use books::modules::Modules;
-use books::outcome::Outcome;
+use books::site::Site;
 use word::fault::Fault;
 use word::letters::is_bracket;
 use word::module::Module;
@@ -54,15 +54,20 @@ impl Rewriter {
         ensures { Answers self.now.produced self.now.window.first self.now.window.first (with_right self.now generation (symbol_of symbol) (option_map symbol_of right)) result }
     {
         let depth = self.window.first();
-        match self.book.becomes(self.lefts.at(depth), symbol, right) {
-            Outcome::Itself => self.add(generation, Modules::one(symbol), depth),
-            Outcome::Grown(growth) => {
+        let site = Site {
+            left: self.lefts.at(depth),
+            module: symbol,
+            right,
+        };
+        match self.book.becomes(site) {
+            Ok(None) => self.add(generation, Modules::one(symbol), depth),
+            Ok(Some(growth)) => {
                 if growth.depth > DEEPEST - depth {
                     return Err(self.found(generation, 33));
                 }
                 self.add(generation, growth.modules, depth)
             }
-            Outcome::Fault(cause) => Err(self.found(generation, cause.number())),
+            Err(cause) => Err(self.found(generation, cause.number())),
         }
     }
 

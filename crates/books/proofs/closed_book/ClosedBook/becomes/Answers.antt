@@ -9,5 +9,5 @@ returns c =
     let b = c.args.self.now in
     record {
       value = c.becomes.ensures;
-      label = label (closed_book b).rules b.contents.ordered (option_map symbol_of c.args.left) (symbol_of c.args.symbol) (option_map symbol_of c.args.right);
+      label = label (closed_book b).rules b.contents.ordered (option_map symbol_of c.args.site.left) (symbol_of c.args.site.module) (option_map symbol_of c.args.site.right);
     }

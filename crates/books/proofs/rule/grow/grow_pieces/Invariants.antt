@@ -1,6 +1,6 @@
 use Rattle.std.proofs.Common.{◌≡◌, ◌+◌, ◌≤◌, map, length, drop}
 use Rattle.word.specs.Records.{symbol_of}
-use Rattle.expr.specs.Machine.{env_of}
+use Rattle.expr.specs.Records.{env_of}
 use Rattle.rules.specs.Records.{pieces_from, places_in}
 use Rattle.books.specs.Outcomes.{successor}
 use Rattle.books.specs.Few.{modules_in}

@@ -1,4 +1,4 @@
-use Rattle.expr.specs.Machine.{env_of}
+use Rattle.expr.specs.Records.{env_of}
 use Rattle.books.proofs.Growing.{few, all_worked}
 use Rattle.books.proofs.rule.grow.worked.Goals as goal
 

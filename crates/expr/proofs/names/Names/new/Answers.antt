@@ -1,5 +1,5 @@
 use Rattle.std.proofs.Common.{◌≡◌, ◌-◌, Bool, true, false, cond, ℤ, pos, refl, ap, ◌∙◌}
-use Rattle.expr.specs.Machine.{is_name}
+use Rattle.expr.specs.Records.{is_name}
 use Rattle.expr.proofs.Stacks.{all_same}
 use Rattle.expr.proofs.names.Names.new.Goals as goal
 
