@@ -19,3 +19,4 @@ pub mod Passing
 pub mod Answered
 pub mod Noting
 pub mod Telling
+pub mod Stepping

@@ -77,5 +77,5 @@ pub left_is : (lefts : List (Option Module)) (d e : ℕ) (x : Option Module) →
 left_is lefts d e x is same low = ap (option_map symbol_of) (is ∙ get_or_default lefts d x None low) ∙ ap (shown symbol_of lefts) same
 
 -- no window begins deeper than 32
-pub low : (r : Rewriter) → r.window.first ≤ 32
-low r = span_first r.window.first (held r.window) r.window.last r.window.joined
+pub low : (r : Rewriter) → r.window.first.brackets ≤ 32
+low r = span_first r.window.first.brackets (held r.window) r.window.last.brackets r.window.joined

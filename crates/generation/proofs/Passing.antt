@@ -16,12 +16,12 @@ module _ (w w' : Window) (x : Module) (is : x ≡ get_or (in_window w) 0 x) (som
   pub pops
       : (p : Option Module)
       → MatchOption p ((in_window w ≡ []) × (w' ≡ w)) (λ m. in_window w ≡ m ∷ in_window w')
-      → IfSome p (λ m. w'.first ≡ after w.first (symbol_of m))
-      → (in_window w ≡ x ∷ in_window w') × (w'.first ≡ after w.first (symbol_of x))
+      → IfSome p (λ m. w'.first.brackets ≡ after w.first.brackets (symbol_of m))
+      → (in_window w ≡ x ∷ in_window w') × (w'.first.brackets ≡ after w.first.brackets (symbol_of x))
   pops None h f = absurd (omega (arith, ap length h.0, some))
   pops (Some m) h f =
       let same : x ≡ m = is ∙ ap (λ (l : List Module). get_or l 0 x) h in
-      (h ∙ ap (λ (y : Module). y ∷ in_window w') (sym same), f ∙ ap (λ (y : Module). after w.first (symbol_of y)) (sym same))
+      (h ∙ ap (λ (y : Module). y ∷ in_window w') (sym same), f ∙ ap (λ (y : Module). after w.first.brackets (symbol_of y)) (sym same))
 
 pub onwards : (p q : ℕ) → q ≡ min (p + 1) 16_000_000 → q ≡ onward p
 onwards p q h = omega (arith, h)
@@ -38,7 +38,7 @@ one_spans d s w e h =
     and_from (leb d 32) _ p.0 (and_from _ _ q.0 (no_span (after d s) (span_first (after d s) w e q.1)))
 
 -- it leads to the depth behind it
-pub may_pass : (w : Window) (x : Module) → x ≡ get_or (in_window w) 0 x → 0 < length (in_window w) → spans w.first (symbol_of x ∷ []) (after w.first (symbol_of x)) ≡ true
+pub may_pass : (w : Window) (x : Module) → x ≡ get_or (in_window w) 0 x → 0 < length (in_window w) → spans w.first.brackets (symbol_of x ∷ []) (after w.first.brackets (symbol_of x)) ≡ true
 may_pass w x is some =
-    one_spans w.first (symbol_of x) (map symbol_of (drop 1 (in_window w))) w.last
-    (subst (λ (l : List Module). spans w.first (map symbol_of l) w.last ≡ true) (in_hand (in_window w) x is some) w.joined)
+    one_spans w.first.brackets (symbol_of x) (map symbol_of (drop 1 (in_window w))) w.last.brackets
+    (subst (λ (l : List Module). spans w.first.brackets (map symbol_of l) w.last.brackets ≡ true) (in_hand (in_window w) x is some) w.joined)

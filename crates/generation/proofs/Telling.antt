@@ -24,8 +24,8 @@ module _ (r : Rewriter) (fs : List Module) (same : fs ≡ modules_in r.growth) (
   pub first_pending : pending r ≡ symbol_of x ∷ map symbol_of rest
   first_pending = ap (map symbol_of) first_off
 
-  pub rest_spans : spans (after r.opened (symbol_of x)) (map symbol_of rest) r.window.first ≡ true
-  rest_spans = one_less r.opened (symbol_of x) (map symbol_of rest) r.window.first (subst (λ (l : List Symbol). spans r.opened l r.window.first ≡ true) first_pending r.joined)
+  pub rest_spans : spans (after r.opened.brackets (symbol_of x)) (map symbol_of rest) r.window.first.brackets ≡ true
+  rest_spans = one_less r.opened.brackets (symbol_of x) (map symbol_of rest) r.window.first.brackets (subst (λ (l : List Symbol). spans r.opened.brackets l r.window.first.brackets ≡ true) first_pending r.joined)
 
   pub rest_fewer : length rest ≤ r.produced
   rest_fewer = omega (arith, ap length first_off, r.counted)

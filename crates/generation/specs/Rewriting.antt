@@ -1,5 +1,6 @@
 -- Internal. What a generation has still to tell, in every state.
 use Rattle.std.specs.Prelude.{◌≡◌, ℕ, ◌+◌, ◌≤◌, true, cond, List, [], ◌∷◌, ◌++◌, map, length, drop, Some, None, Ok, Err, Option, Result}
+use Rattle.std.specs.Option.{option_map}
 use Rattle.word.specs.declared.fault.Fault.{Fault}
 use Rattle.word.specs.declared.module.Module.{Module}
 use Rattle.word.specs.Symbols.{Symbol, is_bracket}
@@ -10,14 +11,12 @@ use Rattle.books.specs.declared.modules.Modules.{Modules}
 use Rattle.books.specs.Outcomes.{becomes}
 use Rattle.books.specs.Few.{modules_in, symbols_in}
 use Rattle.books.specs.Kinds.{closed_book}
-use Rattle.generation.specs.declared.right.Right.{Right}
-use Rattle.generation.specs.declared.right.Right.TheVariants as right
 use Rattle.generation.specs.declared.rewriter.Rewriter.{Rewriter}
 use Rattle.generation.specs.Generations.{next, found, Part, adds, stops, added, worked}
 use Rattle.generation.specs.Stream.{Table, passed, onward, turn, streamed}
 use Rattle.generation.specs.Tables.{table}
 use Rattle.generation.specs.Spans.{spans}
-use Rattle.generation.specs.Windows.{in_window, flow}
+use Rattle.generation.specs.Windows.{in_window, flow, Kept}
 
 -- what is worked out already
 abbrev pub pending : Rewriter → List Symbol
@@ -35,22 +34,20 @@ in_all g d v t = record { told = record { modules = v ++ t.modules; ending = t.e
 -- what is still to tell over a source that means m
 abbrev pub left_in : Rewriter → Meaning → Meaning
 left_in r m =
-    in_all m.generation r.opened (pending r)
-    (telling r.fault r.book m.generation (flow r.window m) r.produced r.place r.window.first (table r.lefts))
+    in_all m.generation r.opened.brackets (pending r)
+    (telling r.fault r.book m.generation (flow r.window m) r.produced r.place r.window.first.brackets (table r.lefts))
 
--- the outcome of the module s of generation g, by what is found on its right
-module _ (r : Rewriter) (g : ℕ) (s : Symbol) where
+-- the outcome of the module s, by what is found on its right
+module _ (r : Rewriter) (s : Symbol) where
   abbrev pub with_right : Option Symbol → Part
-  with_right o = worked g r.produced r.place r.window.first s (becomes (table r.lefts r.window.first) s o (closed_book r.book).rules)
+  with_right o = worked r.generation r.produced r.place r.window.first.brackets s (becomes (table r.lefts r.window.first.brackets) s o (closed_book r.book).rules)
 
-  abbrev pub by_right : Right → Part
-  by_right (right.Neighbour x) = with_right (Some (symbol_of x))
-  by_right right.Missing = with_right None
-  by_right right.TooFar = stops (found g r.place 30)
-  by_right (right.Broken f) = stops f
+  abbrev pub by_right : Result (Option Module) Fault → Part
+  by_right (Ok o) = with_right (option_map symbol_of o)
+  by_right (Err f) = stops f
 
-  abbrev pub part_of : Right → Part
-  part_of x = cond (is_bracket s.letter) (added g r.produced r.place (s ∷ [])) (by_right x)
+  abbrev pub part_of : Result (Option Module) Fault → Part
+  part_of x = cond (is_bracket s.letter) (added r.generation r.produced r.place (s ∷ [])) (by_right x)
 
 -- the answer of the code to a part: modules that lead from d to e, or a fault in bounds
 abbrev pub Answers : ℕ → ℕ → ℕ → Part → Result Modules Fault → Type 0
@@ -58,20 +55,19 @@ Answers n d e p (Ok ms) = (p ≡ adds (symbols_in ms)) × (spans d (symbols_in m
 Answers n d e p (Err f) = (p ≡ stops f) × (in_bounds (broken f) ≡ true)
 
 -- a passed-up fault is in bounds
-abbrev pub Sound : Right → Type 0
-Sound (right.Neighbour x) = Unit {0}
-Sound right.Missing = Unit {0}
-Sound right.TooFar = Unit {0}
-Sound (right.Broken f) = in_bounds (broken f) ≡ true
+abbrev pub Sound : Result (Option Module) Fault → Type 0
+Sound (Ok o) = Unit {0}
+Sound (Err f) = in_bounds (broken f) ≡ true
 
 -- the part of the module s, where the word below means m and the modules w come behind s
 abbrev pub part_in : Rewriter → Meaning → Symbol → List Symbol → Part
 part_in r m s w =
-    turn (closed_book r.book) m.generation (flow r.window m).ending r.produced r.place r.window.first (table r.lefts r.window.first) s w
+    turn (closed_book r.book) m.generation (flow r.window m).ending r.produced r.place r.window.first.brackets (table r.lefts r.window.first.brackets) s w
 
 -- all but the window stays
 pub record Reads (r r' : Rewriter) : Type 0 where
   pub book_stays : r'.book ≡ r.book
+  pub generation_stays : r'.generation ≡ r.generation
   pub lefts_stay : r'.lefts ≡ r.lefts
   pub made_stays : r'.produced ≡ r.produced
   pub place_stays : r'.place ≡ r.place
@@ -79,22 +75,29 @@ pub record Reads (r r' : Rewriter) : Type 0 where
   pub opened_stays : r'.opened ≡ r.opened
   pub fault_stays : r'.fault ≡ r.fault
 
--- nothing is read, and d brackets are open
-pub record Begins (b : ClosedBook) (d : ℕ) (r : Rewriter) : Type 0 where
+-- something may be read from below: what flows stays, and all but the window does
+pub record ReadsOn (r : Rewriter) (m : Meaning) (r' : Rewriter) (m' : Meaning) : Type 0 where
+  pub reads : Reads r r'
+  pub kept : Kept r.window m r'.window m'
+
+-- nothing is read of a word of generation g, and d brackets are open
+pub record Begins (b : ClosedBook) (g d : ℕ) (r : Rewriter) : Type 0 where
   pub book_is : r.book ≡ b
+  pub generation_is : r.generation ≡ g
   pub none_held : in_window r.window ≡ []
-  pub first_is : r.window.first ≡ d
-  pub last_is : r.window.last ≡ d
+  pub first_is : r.window.first.brackets ≡ d
+  pub last_is : r.window.last.brackets ≡ d
   pub none_left : table r.lefts ≡ (λ e. None)
   pub none_made : r.produced ≡ 0
   pub at_start : r.place ≡ 0
   pub none_pending : pending r ≡ []
-  pub opened_is : r.opened ≡ d
+  pub opened_is : r.opened.brackets ≡ d
   pub no_fault : r.fault ≡ None
 
 -- all but what is pending stays
 pub record Stays (r r' : Rewriter) : Type 0 where
   pub book_stays : r'.book ≡ r.book
+  pub generation_stays : r'.generation ≡ r.generation
   pub window_stays : r'.window ≡ r.window
   pub lefts_stay : r'.lefts ≡ r.lefts
   pub made_stays : r'.produced ≡ r.produced
@@ -103,15 +106,16 @@ pub record Stays (r r' : Rewriter) : Type 0 where
 -- the next module is told, or none is pending
 abbrev pub Tells : Rewriter → Option Module → Rewriter → Type 0
 Tells r None r' = (pending r ≡ []) × (r' ≡ r)
-Tells r (Some x) r' = (pending r ≡ symbol_of x ∷ pending r') × (r'.opened ≡ after r.opened (symbol_of x)) × (r'.fault ≡ r.fault) × Stays r r'
+Tells r (Some x) r' = (pending r ≡ symbol_of x ∷ pending r') × (r'.opened.brackets ≡ after r.opened.brackets (symbol_of x)) × (r'.fault ≡ r.fault) × Stays r r'
 
 -- the module x in hand is passed over, and the modules v are pending
 pub record Passes (r : Rewriter) (x : Module) (v : List Symbol) (r' : Rewriter) : Type 0 where
   pub book_stays : r'.book ≡ r.book
+  pub generation_stays : r'.generation ≡ r.generation
   pub popped : in_window r.window ≡ x ∷ in_window r'.window
-  pub deeper : r'.window.first ≡ after r.window.first (symbol_of x)
+  pub deeper : r'.window.first.brackets ≡ after r.window.first.brackets (symbol_of x)
   pub last_stays : r'.window.last ≡ r.window.last
-  pub noted : table r'.lefts ≡ passed (closed_book r.book).ignored r.window.first (symbol_of x) (symbol_of x) (table r.lefts)
+  pub noted : table r'.lefts ≡ passed (closed_book r.book).ignored r.window.first.brackets (symbol_of x) (symbol_of x) (table r.lefts)
   pub made : r'.produced ≡ r.produced + length v
   pub onwards : r'.place ≡ onward r.place
   pub now_pending : pending r' ≡ v

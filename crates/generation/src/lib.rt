@@ -6,10 +6,10 @@ ghost use Rattle.generation.specs.Growths.{Growths};
 ghost use Rattle.generation.specs.Laws.{StaysLawful};
 ghost use Rattle.generation.specs.Sentences.{NeighboursAre};
 
-pub(crate) mod ahead;
+pub mod cause;
+pub mod layer;
 pub mod lefts;
 pub mod rewriter;
-pub mod right;
 pub mod window;
 
 /// The worked growths stand.

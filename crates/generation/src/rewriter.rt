@@ -9,28 +9,29 @@ use super::lefts::Lefts;
 use super::window::Window;
 use books::closed_book::ClosedBook;
 use books::modules::Modules;
+use word::depth::Depth;
 use word::fault::Fault;
 
-pub mod seek;
 pub mod tell;
 pub mod turn;
 
-/// The modules read ahead, one left neighbour for each depth, how many modules are in the result, the position of the next
+/// The book, the generation number of the word below, the modules read ahead, one left neighbour for each depth, how many modules are in the result, the position of the next
 /// module of the word below, what is to be told next with the brackets open before it, and the fault that ends the result.
 #[derive(Clone, Copy)]
 pub struct Rewriter {
-    book: ClosedBook,
-    window: Window,
+    pub(crate) book: ClosedBook,
+    pub(crate) generation: u8,
+    pub(crate) window: Window,
     lefts: Lefts,
     produced: u32,
     place: u32,
     growth: Modules,
     told: usize,
-    opened: u8,
+    opened: Depth,
     fault: Option<Fault>,
     ghost few: { produced ≤ 16_000_000 },
     ghost inside: { place ≤ 16_000_000 },
     ghost counted: { length (drop told (modules_in growth)) ≤ produced },
-    ghost joined: { spans opened (map symbol_of (drop told (modules_in growth))) window.first ≡ true },
+    ghost joined: { spans opened.brackets (map symbol_of (drop told (modules_in growth))) window.first.brackets ≡ true },
     ghost bounds: { bounded fault ≡ true },
 }

@@ -3,6 +3,7 @@ ghost use Rattle.std.specs.Prelude.{◌≡◌, ◌+◌, ◌≤◌, true, map, le
 ghost use Rattle.word.specs.Records.{symbol_of};
 ghost use Rattle.generation.specs.Spans.{spans};
 
+use word::depth::Depth;
 use word::module::Module;
 
 pub mod fill;
@@ -13,9 +14,9 @@ pub struct Window {
     row: [Module; 65],
     start: usize,
     len: usize,
-    first: u8,
-    last: u8,
+    first: Depth,
+    last: Depth,
     ghost wide: { length row ≡ 65 },
     ghost within: { start + len ≤ 65 },
-    ghost joined: { spans first (map symbol_of (take len (drop start row))) last ≡ true },
+    ghost joined: { spans first.brackets (map symbol_of (take len (drop start row))) last.brackets ≡ true },
 }

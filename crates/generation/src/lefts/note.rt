@@ -6,6 +6,7 @@ ghost use Rattle.generation.specs.Stream.{passed};
 ghost use Rattle.generation.specs.Tables.{table};
 
 use super::Lefts;
+use word::depth::Depth;
 use word::letters::is_bracket;
 use word::module::Module;
 
@@ -18,20 +19,18 @@ impl Lefts {
     }
 
     // The left neighbour at a depth.
-    pub(crate) fn at(&self, depth: u8) -> Option<Module>
-        requires { depth ≤ 32 }
-        ensures { option_map symbol_of result ≡ table self.now depth }
+    pub(crate) fn at(&self, depth: Depth) -> Option<Module>
+        ensures { option_map symbol_of result ≡ table self.now depth.brackets }
     {
-        self.row[depth as usize]
+        self.row[usize::from(depth.brackets)]
     }
 
     // A module at a depth is passed: `[` hands the neighbour on to its branch, a letter that is not ignored is the neighbour now.
-    pub(crate) fn note(&mut self, depth: u8, symbol: Module, ignored: bool)
-        requires here { depth ≤ 32 }
-        requires behind { after depth (symbol_of symbol) ≤ 32 }
-        ensures { (some : ℕ → Bool) → some symbol.letter ≡ ignored → table self.new ≡ passed some depth (symbol_of symbol) (symbol_of symbol) (table self.old) }
+    pub(crate) fn note(&mut self, depth: Depth, symbol: Module, ignored: bool)
+        requires { after depth.brackets (symbol_of symbol) ≤ 32 }
+        ensures { (some : ℕ → Bool) → some symbol.letter ≡ ignored → table self.new ≡ passed some depth.brackets (symbol_of symbol) (symbol_of symbol) (table self.old) }
     {
-        let at = depth as usize;
+        let at = usize::from(depth.brackets);
         if symbol.letter == b'[' {
             self.row[at + 1] = self.row[at];
         } else if !is_bracket(symbol.letter) && !ignored {

@@ -8,23 +8,23 @@ ghost use Rattle.generation.specs.Rewriting.{Begins, Tells, Passes};
 
 use super::super::lefts::Lefts;
 use super::super::window::Window;
-use super::super::window::fill::depth_after;
 use super::Rewriter;
 use books::closed_book::ClosedBook;
 use books::modules::Modules;
+use word::depth::Depth;
 use word::module::Module;
 
 /// No word has a module at this position.
 const END: u32 = 16_000_000;
 
 impl Rewriter {
-    // Nothing is read, and so many brackets are open.
-    pub(crate) fn new(book: ClosedBook, depth: u8) -> Rewriter
-        requires { depth ≤ 32 }
-        ensures { Begins book depth result }
+    // Nothing is read of a word of this generation, before which so many brackets are open.
+    pub(crate) fn new(book: ClosedBook, generation: u8, depth: Depth) -> Rewriter
+        ensures { Begins book generation depth.brackets result }
     {
         Rewriter {
             book,
+            generation,
             window: Window::empty(depth),
             lefts: Lefts::new(),
             produced: 0,
@@ -45,7 +45,7 @@ impl Rewriter {
         }
         let symbol = self.growth.filled()[self.told];
         self.told += 1;
-        self.opened = depth_after(self.opened, symbol);
+        self.opened = self.opened.after(symbol).unwrap();
         Some(symbol)
     }
 
@@ -53,7 +53,7 @@ impl Rewriter {
     pub(crate) fn pass(&mut self, symbol: Module, modules: Modules)
         requires first { symbol ≡ slice_index_or (in_window self.old.window) 0 symbol }
         requires some { 0 < length (in_window self.old.window) }
-        requires leads { spans self.old.opened (symbols_in modules) (after self.old.window.first (symbol_of symbol)) ≡ true }
+        requires leads { spans self.old.opened.brackets (symbols_in modules) (after self.old.window.first.brackets (symbol_of symbol)) ≡ true }
         requires room { self.old.produced + length (modules_in modules) ≤ 16_000_000 }
         ensures { Passes self.old symbol (symbols_in modules) self.new }
     {

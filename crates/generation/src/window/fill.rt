@@ -1,41 +1,21 @@
-ghost use Rattle.std.specs.Prelude.{◌≡◌, ◌+◌, ◌<◌, ◌≤◌, true, not, ◌&&◌, [], ◌∷◌, ◌++◌, length, IfSome, MatchOption, ◌==◌, slice_index_or};
-ghost use Rattle.word.specs.Symbols.{is_close};
-ghost use Rattle.word.specs.Words.{after};
+ghost use Rattle.std.specs.Prelude.{◌≡◌, ◌+◌, ◌<◌, ◌≤◌, true, [], ◌∷◌, ◌++◌, length, IfSome, MatchOption, slice_index_or};
+ghost use Rattle.word.specs.Words.{after, may_stand};
 ghost use Rattle.word.specs.Records.{symbol_of};
 ghost use Rattle.generation.specs.Windows.{in_window};
 
 use super::Window;
+use word::depth::Depth;
 use word::module::Module;
-
-/// How many brackets are open behind a module, where `depth` are open before it.
-pub(crate) fn depth_after(depth: u8, symbol: Module) -> u8
-    requires { after depth (symbol_of symbol) ≤ 255 }
-    ensures { result ≡ after depth (symbol_of symbol) }
-{
-    match symbol.letter {
-        b'[' => depth + 1,
-        b']' => depth.saturating_sub(1),
-        _ => depth,
-    }
-}
 
 impl Window {
     // An empty window where so many brackets are open.
-    pub(crate) fn empty(depth: u8) -> Window
-        requires { depth ≤ 32 }
+    pub(crate) fn empty(depth: Depth) -> Window
         ensures held { in_window result ≡ [] }
         ensures first { result.first ≡ depth }
         ensures last { result.last ≡ depth }
     {
-        let blank = Module {
-            letter: b'[',
-            count: 0,
-            a: 0,
-            b: 0,
-            c: 0,
-        };
         Window {
-            row: [blank; 65],
+            row: [Module::BLANK; 65],
             start: 0,
             len: 0,
             first: depth,
@@ -51,14 +31,14 @@ impl Window {
     }
 
     /// The brackets open before the first module.
-    pub fn first(&self) -> u8
+    pub fn first(&self) -> Depth
         ensures { result ≡ self.now.first }
     {
         self.first
     }
 
     /// The brackets open behind the last module.
-    pub fn last(&self) -> u8
+    pub fn last(&self) -> Depth
         ensures { result ≡ self.now.last }
     {
         self.last
@@ -90,22 +70,21 @@ impl Window {
     // One module more at the end.
     pub(crate) fn push(&mut self, symbol: Module)
         requires room { length (in_window self.old) < 65 }
-        requires closes { not (is_close symbol.letter && self.old.last == 0) ≡ true }
-        requires low { after self.old.last (symbol_of symbol) ≤ 32 }
+        requires stands { may_stand self.old.last.brackets (symbol_of symbol) ≡ true }
         ensures held { in_window self.new ≡ in_window self.old ++ (symbol ∷ []) }
         ensures first { self.new.first ≡ self.old.first }
-        ensures last { self.new.last ≡ after self.old.last (symbol_of symbol) }
+        ensures last { self.new.last.brackets ≡ after self.old.last.brackets (symbol_of symbol) }
     {
         self.make_room();
         self.row[self.start + self.len] = symbol;
         self.len += 1;
-        self.last = depth_after(self.last, symbol);
+        self.last = self.last.after(symbol).unwrap();
     }
 
     // Takes the first module off.
     pub(crate) fn pop(&mut self) -> Option<Module>
         ensures held { MatchOption result ((in_window self.old ≡ []) × (self.new ≡ self.old)) (λ m. in_window self.old ≡ m ∷ in_window self.new) }
-        ensures first { IfSome result (λ m. self.new.first ≡ after self.old.first (symbol_of m)) }
+        ensures first { IfSome result (λ m. self.new.first.brackets ≡ after self.old.first.brackets (symbol_of m)) }
         ensures last { self.new.last ≡ self.old.last }
     {
         if self.len == 0 {
@@ -114,7 +93,7 @@ impl Window {
         let symbol = self.row[self.start];
         self.start += 1;
         self.len -= 1;
-        self.first = depth_after(self.first, symbol);
+        self.first = self.first.after(symbol).unwrap();
         Some(symbol)
     }
 }

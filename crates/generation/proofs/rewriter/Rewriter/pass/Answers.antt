@@ -1,5 +1,6 @@
 use Rattle.std.proofs.Common.{◌≡◌, ◌+◌, ◌≤◌, true, sym, refl, ap, ◌∙◌, subst, arith}
 use lib.ListN.{length-map}
+use Rattle.word.specs.declared.depth.Depth.{Depth}
 use Rattle.word.specs.Words.{after}
 use Rattle.word.specs.Records.{symbol_of}
 use Rattle.books.specs.Few.{modules_in, symbols_in}
@@ -16,8 +17,8 @@ pub note-requires : goal.note-requires
 note-requires c =
     let r = c.args.self.now in
     let s = symbol_of c.args.symbol in
-    let behind = span_last r.opened (symbols_in c.args.modules) (after r.window.first s) c.requires.leads in
-    record { here = omega (arith, c.first-depth.ensures, low r); behind = subst (λ d. after d s ≤ 32) (sym c.first-depth.ensures) behind }
+    let behind = span_last r.opened.brackets (symbols_in c.args.modules) (after r.window.first.brackets s) c.requires.leads in
+    subst (λ (d : Depth). after d.brackets s ≤ 32) (sym c.first-depth.ensures) behind
 
 pub invariant_of-self : goal.invariant_of-self
 invariant_of-self c =
@@ -27,7 +28,7 @@ invariant_of-self c =
       few = omega (arith, c.requires.room, c.len.ensures);
       inside = omega (arith, c.min-self.ensures);
       counted = omega (arith, c.len.ensures);
-      joined = subst (λ d. spans r.opened (symbols_in c.args.modules) d ≡ true) (sym popped.1) c.requires.leads;
+      joined = subst (λ d. spans r.opened.brackets (symbols_in c.args.modules) d ≡ true) (sym popped.1) c.requires.leads;
       bounds = r.bounds;
     }
 
@@ -38,12 +39,13 @@ returns c =
     let popped = pops r.window c.pop.new.self x c.requires.first c.requires.some c.pop.result c.pop.ensures.held c.pop.ensures.first in
     record {
       book_stays = refl;
+      generation_stays = refl;
       popped = popped.0;
       deeper = popped.1;
       last_stays = c.pop.ensures.last;
       noted =
           c.note.ensures (closed_book r.book).ignored (sym c.ignores-ignored.ensures)
-          ∙ ap (λ d. passed (closed_book r.book).ignored d (symbol_of x) (symbol_of x) (table r.lefts)) c.first-depth.ensures;
+          ∙ ap (λ (d : Depth). passed (closed_book r.book).ignored d.brackets (symbol_of x) (symbol_of x) (table r.lefts)) c.first-depth.ensures;
       made = ap (λ n. r.produced + n) (c.len.ensures ∙ sym (length-map (modules_in c.args.modules) symbol_of));
       onwards = onwards r.place c.min-self.result c.min-self.ensures;
       now_pending = refl;

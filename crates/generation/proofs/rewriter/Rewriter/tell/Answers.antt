@@ -1,22 +1,32 @@
-use Rattle.std.proofs.Common.{◌<◌, map, length, refl, ap, ◌∙◌, arith}
-use Rattle.word.specs.Words.{after}
+use Rattle.std.proofs.Common.{◌≡◌, ◌<◌, true, List, map, length, get_or, refl, ap, ◌∙◌, subst, arith}
+use Rattle.word.specs.declared.module.Module.{Module}
+use Rattle.word.specs.Symbols.{Symbol}
+use Rattle.books.specs.Few.{modules_in}
+use Rattle.generation.specs.declared.rewriter.Rewriter.{Rewriter}
+use Rattle.word.specs.Words.{after, may_stand}
 use Rattle.word.specs.Records.{symbol_of}
 use Rattle.generation.specs.Spans.{spans}
-use Rattle.generation.proofs.Spanning.{span_first}
+use Rattle.generation.proofs.Spanning.{span_stands}
+use Rattle.generation.proofs.Stepping.{there, behind}
 use Rattle.generation.proofs.Telling.{none_pending, first_pending, rest, rest_spans, rest_fewer}
 use Rattle.generation.proofs.rewriter.Rewriter.tell.Goals as goal
 
 pub returns-then-self-len : goal.returns-then-self-len
 returns-then-self-len c = (none_pending c.args.self.now (omega (arith, c.len.ensures)), refl)
 
-pub depth_after-self-requires : goal.depth_after-self-requires
-depth_after-self-requires c =
+-- the next module may stand, and the depth behind it is known
+module _ (r : Rewriter) (fs : List Module) (same : fs ≡ modules_in r.growth) (x : Module) (some : r.told < length fs) (is : x ≡ get_or fs r.told x) where
+  may : may_stand r.opened.brackets (symbol_of x) ≡ true
+  may = span_stands r.opened.brackets (symbol_of x) (map symbol_of (rest r fs same x some is)) r.window.first.brackets
+      (subst (λ (l : List Symbol). spans r.opened.brackets l r.window.first.brackets ≡ true) (first_pending r fs same x some is) r.joined)
+
+pub unwrap-self-requires : goal.unwrap-self-requires
+unwrap-self-requires c =
     let r = c.args.self.now in
     let x = c.index-filled-self.result in
     let fs = c.filled.result.now in
     let some : r.told < length fs = omega (arith, c.len.ensures, ap length c.filled.ensures) in
-    let low = span_first (after r.opened (symbol_of x)) (map symbol_of (rest r fs c.filled.ensures x some c.index-filled-self.is)) r.window.first (rest_spans r fs c.filled.ensures x some c.index-filled-self.is) in
-    omega (arith, low)
+    there r.opened.brackets (symbol_of x) (may r fs c.filled.ensures x some c.index-filled-self.is) c.after.result c.after.ensures
 
 pub invariant_of-self : goal.invariant_of-self
 invariant_of-self c =
@@ -28,7 +38,8 @@ invariant_of-self c =
       few = r.few;
       inside = r.inside;
       counted = rest_fewer r fs c.filled.ensures x some c.index-filled-self.is;
-      joined = ap (λ d. spans d (map symbol_of (rest r fs c.filled.ensures x some c.index-filled-self.is)) r.window.first) c.depth_after-self.ensures
+      joined = ap (λ d. spans d (map symbol_of (rest r fs c.filled.ensures x some c.index-filled-self.is)) r.window.first.brackets)
+          (behind r.opened.brackets (symbol_of x) (may r fs c.filled.ensures x some c.index-filled-self.is) c.after.result c.after.ensures c.unwrap-self.result c.unwrap-self.ensures)
           ∙ rest_spans r fs c.filled.ensures x some c.index-filled-self.is;
       bounds = r.bounds;
     }
@@ -40,7 +51,7 @@ returns c =
     let fs = c.filled.result.now in
     let some : r.told < length fs = omega (arith, c.len.ensures, ap length c.filled.ensures) in (
       first_pending r fs c.filled.ensures x some c.index-filled-self.is,
-      c.depth_after-self.ensures,
+      behind r.opened.brackets (symbol_of x) (may r fs c.filled.ensures x some c.index-filled-self.is) c.after.result c.after.ensures c.unwrap-self.result c.unwrap-self.ensures,
       refl,
-      record { book_stays = refl; window_stays = refl; lefts_stay = refl; made_stays = refl; place_stays = refl },
+      record { book_stays = refl; generation_stays = refl; window_stays = refl; lefts_stay = refl; made_stays = refl; place_stays = refl },
     )

@@ -12,7 +12,7 @@ invariant_of-self c =
     record {
       wide = turned_length w.row w.start w.len w.wide w.within c.rotate_left.new.self c.rotate_left.ensures.after;
       within = omega arith;
-      joined = subst (λ (l : List Module). spans w.first (map symbol_of l) w.last ≡ true) (sym moved) w.joined;
+      joined = subst (λ (l : List Module). spans w.first.brackets (map symbol_of l) w.last.brackets ≡ true) (sym moved) w.joined;
     }
 
 pub returns : goal.returns
