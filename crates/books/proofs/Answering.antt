@@ -7,7 +7,7 @@ use Rattle.book.specs.Books.{Entry, rule, ignores}
 use Rattle.rules.specs.Places.{numbers, names, expressions, each, given_names, places_of}
 use Rattle.rules.specs.Wrong.{some_over, some_twice, some_missing, nests}
 use Rattle.rules.specs.Refusals.{refusal_number, answer_number}
-use Rattle.lines.specs.Reading.{Says, Unread}
+use Rattle.lines.specs.Reading.{Says}
 use Rattle.book.specs.Books.{Book, with_entry}
 use Rattle.books.specs.Refused.{holds_number, code_places, no_place, refused}
 use Rattle.books.specs.Loading.{Loads}
@@ -65,10 +65,3 @@ module _ (bytes : List ℕ) (b b' : Book) where
         from_3 : Late (refused b e) → 3 ≤ refusal_number x
         from_3 (inl z) = absurd (some_number x (q ∙ z))
         from_3 (inr h) = subst (λ n. 3 ≤ n) (sym q) h
-
-  -- a line that is not
-  pub unread : (n : ℕ) → Unread bytes n → b' ≡ b → Loads bytes b n b'
-  unread zero h s = absurd h
-  unread (suc zero) h s = (h, s)
-  unread (suc (suc zero)) h s = (h, s)
-  unread (suc (suc (suc n))) h s = absurd h

@@ -1,25 +1,19 @@
 -- A rule tried and grown.
-use Rattle.std.proofs.Common.{◌≡◌, ℕ, zero, suc, ◌+◌, ◌-◌, ◌<◌, ◌≤◌, min, true, false, ◌&&◌, ltb, List, [], ◌∷◌, ◌++◌, map, length, take, drop, ℤ, pos, Ok, Err, Option, Result, sym, refl, ap, ◌∙◌, append_assoc, arith, length-take, w32, to_z, of_z}
+use Rattle.std.proofs.Common.{◌≡◌, ℕ, zero, suc, ◌-◌, ◌<◌, ◌≤◌, min, true, false, ◌&&◌, ltb, List, [], ◌∷◌, length, take, ℤ, pos, Option, Result, sym, ap, ◌∙◌, arith, length-take, w32, to_z, of_z}
 use mathlib.Core.Path.{fun_ext}
 use native.Mathlib.Nat.{sub-zero}
-use Rattle.std.proofs.lemmas.List.{take_all, drop-drop, map_push, length_push}
+use Rattle.std.proofs.lemmas.List.{take_all}
 use Rattle.std.proofs.lemmas.Bool.{and_parts, and_from}
 use Rattle.std.proofs.lemmas.Bool.Decides.{nat_tests}
-use Rattle.word.specs.declared.module.Module.{Module}
 use Rattle.word.specs.Symbols.{Symbol, may_have, in_range, all_in_range, fits, sound}
-use Rattle.word.specs.Records.{symbol_of}
 use Rattle.word.proofs.Sound.{exact}
 use Rattle.expr.specs.declared.code.Code.{Code}
 use Rattle.expr.specs.declared.computed.Cause.{Cause}
-use Rattle.expr.specs.Values.{Expr, Env, Arguments, made, arguments}
+use Rattle.expr.specs.Values.{Expr, Env, made, arguments}
 use Rattle.expr.specs.Codes.{decoded, latest}
-use Rattle.expr.specs.Records.{cause_number, arguments_of}
+use Rattle.expr.specs.Records.{arguments_of}
 use Rattle.expr.proofs.Ranges.{arguments_in_range}
-use Rattle.rules.specs.declared.piece.Piece.{Piece}
 use Rattle.book.specs.Rules.{Form, given, given_beside}
-use Rattle.rules.specs.Records.{pieces_from}
-use Rattle.books.specs.Outcomes.{Outcome, itself, grown, fault, with_first, successor}
-use Rattle.books.specs.Trying.{behind, Grows}
 
 pub first_part : (n : ℕ) (code : List Code) → n ≤ 200 → take 200 (take (n - 0) code) ≡ take n code
 first_part n code h = take_all 200 (take (n - 0) code) (omega (arith, length-take (n - 0) code, sub-zero n)) ∙ ap (λ k. take k code) (sub-zero n)
@@ -67,49 +61,3 @@ all_worked g n code r low short e =
     let m : min n 3 ≡ n = omega arith in
     let t = take_all 200 code short in
     sym (ap (λ k. arguments_of k r) m) ∙ e ∙ (λ i. arguments g (latest (m i) (decoded [] (t i))))
-
--- a successor, one piece on
-behind_nothing : (o : Outcome) → behind [] o ≡ o
-behind_nothing itself = refl
-behind_nothing (grown w) = refl
-behind_nothing (fault n) = refl
-
-pub none_grown : (w : List Symbol) → w ≡ [] → (o : Outcome) → behind w o ≡ o
-none_grown w e o = ap (λ (v : List Symbol). behind v o) e ∙ behind_nothing o
-
-behind_one : (w : List Symbol) (c : ℕ) (xs : List ℤ) (o : Outcome) → behind (w ++ (record { letter = c; params = xs } ∷ [])) o ≡ behind w (with_first c (made xs) o)
-behind_one w c xs itself = refl
-behind_one w c xs (grown v) = ap grown (append_assoc w (record { letter = c; params = xs } ∷ []) v)
-behind_one w c xs (fault n) = refl
-
-module _ (g : Env) (p : Piece) (ps : List Piece) (code part : List Code) (split : part ≡ take p.places code) where
-  one_grown : (w : List Symbol) (m : Module) → Grows g p part (Ok m) → behind (w ++ (symbol_of m ∷ [])) (successor g (pieces_from ps (drop p.places code))) ≡ behind w (successor g (pieces_from (p ∷ ps) code))
-  one_grown w m h =
-      let o = successor g (pieces_from ps (drop p.places code)) in
-      behind_one w m.letter (symbol_of m).params o
-      ∙ (λ i. behind w (with_first (h.1 i) (sym h.0 i) o))
-      ∙ ap (λ (cs : List Code). behind w (with_first p.letter (arguments g (latest p.count (decoded [] cs))) o)) split
-
-  one_spoilt : (w : List Symbol) (e : Cause) → Grows g p part (Err e) → behind w (successor g (pieces_from (p ∷ ps) code)) ≡ fault (cause_number e)
-  one_spoilt w e h =
-      ap (λ (cs : List Code). behind w (with_first p.letter (arguments g (latest p.count (decoded [] cs))) (successor g (pieces_from ps (drop p.places code))))) (sym split)
-      ∙ ap (λ (a : Arguments). behind w (with_first p.letter a (successor g (pieces_from ps (drop p.places code))))) h
-
--- of the part of the code that is a piece's own, n places from `at` on
-module _ (g : Env) (p : Piece) (ps : List Piece) (at n : ℕ) (own : n ≡ p.places) (code : List Code) (w : List Symbol) where
-  abbrev part : List Code
-  part = take (at + n - at) (drop at code)
-
-  part_is : part ≡ take p.places (drop at code)
-  part_is = let e : at + n - at ≡ p.places = omega arith in ap (λ k. take k (drop at code)) e
-
-  pub all_grown : (v : List Symbol) (m : Module) → v ≡ w ++ (symbol_of m ∷ []) → Grows g p part (Ok m) → behind v (successor g (pieces_from ps (drop (at + n) code))) ≡ behind w (successor g (pieces_from (p ∷ ps) (drop at code)))
-  all_grown v m e h =
-      (λ i. behind (e i) (successor g (pieces_from ps ((ap (λ k. drop (at + k) code) own ∙ sym (drop-drop p.places at code)) i))))
-      ∙ one_grown g p ps (drop at code) part part_is w m h
-
-  pub all_spoilt : (e : Cause) → Grows g p part (Err e) → fault (cause_number e) ≡ behind w (successor g (pieces_from (p ∷ ps) (drop at code)))
-  all_spoilt e h = sym (one_spoilt g p ps (drop at code) part part_is w e h)
-
-pub pushed_map : (ms ns : List Module) (m : Module) → ns ≡ ms ++ (m ∷ []) → (map symbol_of ns ≡ map symbol_of ms ++ (symbol_of m ∷ [])) × (length ns ≡ length ms + 1)
-pushed_map ms ns m e = (ap (map symbol_of) e ∙ map_push symbol_of ms m, ap length e ∙ length_push ms m)

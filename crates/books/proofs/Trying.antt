@@ -1,10 +1,8 @@
 -- Rules tried one after the other.
-use Rattle.std.proofs.Common.{◌≡◌, ℕ, zero, suc, ◌+◌, ◌≤◌, Bool, true, false, cond, ◌&&◌, leb, List, [], ◌∷◌, length, take, drop, Some, Option, sym, ap, ◌∙◌, subst, arith, leb-true}
+use Rattle.std.proofs.Common.{◌≡◌, ℕ, zero, suc, ◌+◌, ◌≤◌, Bool, true, false, cond, ◌&&◌, leb, List, [], ◌∷◌, drop, Some, Option, sym, ap, ◌∙◌, subst, leb-true}
 use mathlib.Core.Path.{fun_ext}
-use Rattle.std.proofs.lemmas.List.{length-drop, length-take-le}
 use Rattle.std.proofs.lemmas.Bool.{and_parts, and_from}
 use Rattle.word.specs.Symbols.{Symbol}
-use Rattle.expr.specs.declared.code.Code.{Code}
 use Rattle.expr.specs.Values.{Env, Verdict, passes, fails, faults, guard}
 use Rattle.book.specs.Rules.{Rule, names_at}
 use Rattle.books.specs.declared.rule.Rule.{Rule as StoredRule}
@@ -12,10 +10,6 @@ use Rattle.book.specs.Winners.{not_false, says, decides, winner}
 use Rattle.book.specs.Winners.{candidate}
 use Rattle.books.specs.Outcomes.{Outcome, fault, successor, by_verdict, by_rule, becomes}
 use Rattle.books.specs.Kept.{within}
-
--- the code of a rule has as many places as the rule says
-pub part_length : (cs part : List Code) (start size : ℕ) → part ≡ take size (drop start cs) → start + size ≤ length cs → length part ≡ size
-part_length cs part start size e h = ap length e ∙ length-take-le size (drop start cs) (simp length-drop (omega arith))
 
 pub within_at : (n : ℕ) (rs : List StoredRule) → within n rs ≡ true → (i : ℕ) (r : StoredRule) (qs : List StoredRule) → drop i rs ≡ r ∷ qs → r.start + r.size ≤ n
 within_at n rs h i r qs e = first (subst (λ (l : List StoredRule). within n l ≡ true) e (rest i rs h))
@@ -53,6 +47,3 @@ module _ (l : Option Symbol) (s : Symbol) (r : Option Symbol) where
 
   pub decided : (u : Rule) (us : List Rule) → decides l s r u ≡ true → becomes l s r (u ∷ us) ≡ by_verdict l s r (says l s r u) u
   decided u us h = ap (λ (t : Bool). by_rule l s r (cond t (Some u) (winner l s r us))) h
-
-  pub passed_over : (u : Rule) (us : List Rule) → decides l s r u ≡ false → becomes l s r (u ∷ us) ≡ becomes l s r us
-  passed_over u us h = ap (λ (t : Bool). by_rule l s r (cond t (Some u) (winner l s r us))) h

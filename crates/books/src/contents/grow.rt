@@ -17,6 +17,7 @@ impl Contents {
     pub(crate) fn becomes(&self, site: Site) -> Result<Option<Growth>, Cause>
         ensures { outcome_of result ≡ becomes (option_map symbol_of site.left) (symbol_of site.module) (option_map symbol_of site.right) (book_in self.now).rules }
     {
+        // A loop, since a fault ends it by `?`: `find_map` over what `try_at` answers, turned inside out, is no plainer.
         for rule in self.rules.filled() {
             if let Some(growth) = rule.try_at(&self.code, site)? {
                 return Ok(Some(growth));

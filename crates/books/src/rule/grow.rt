@@ -56,11 +56,11 @@ fn grow_pieces(pieces: &[Piece], code: &[Code], names: &Names) -> Result<Modules
     ensures { Grown (successor (env_of names.now) (pieces_from pieces.now code.now)) result }
 {
     let mut modules = Modules::new();
-    let mut at = 0;
+    let mut rest = code;
     for piece in pieces {
-        let end = at + usize::from(piece.places);
-        modules.push(grow_piece(piece, &code[at..end], names)?);
-        at = end;
+        let (own, behind) = rest.split_at(usize::from(piece.places));
+        modules.push(grow_piece(piece, own, names)?);
+        rest = behind;
     }
     Ok(modules)
 }
