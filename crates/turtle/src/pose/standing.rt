@@ -3,6 +3,7 @@ ghost use Rattle.turtle.specs.Poses.{home, stance};
 ghost use Rattle.turtle.specs.Examples.{Deeds};
 ghost use Rattle.turtle.specs.Stances.{stance_of};
 
+use super::super::place::Place;
 use super::Pose;
 
 impl Pose {
@@ -12,9 +13,7 @@ impl Pose {
         ensures examples { Deeds }
     {
         Pose {
-            x: 0,
-            y: 0,
-            z: 0,
+            place: Place { x: 0, y: 0, z: 0 },
             orientation: 9,
         }
     }
@@ -23,6 +22,7 @@ impl Pose {
     pub fn whereabouts(&self) -> ((i32, i32, i32), u8)
         ensures { stance result.0.0 result.0.1 result.0.2 result.1 ≡ stance_of self.now }
     {
-        ((self.x, self.y, self.z), self.orientation)
+        let Place { x, y, z } = self.place;
+        ((x, y, z), self.orientation)
     }
 }

@@ -9,5 +9,5 @@ pub returns-in-Turn : goal.returns-in-Turn
 returns-in-Turn c =
     let s = stance_of c.args.self in
     let p = stance_of c.turned.result in
-    ap goes (turned_so s p c.in-Turn.turn c.args.self.known c.turned.ensures.turned)
-    ∙ ap (λ k. done k (stride (symbol_of c.args.next).params) s) c.in-Turn.ensures
+    rw (← c.from.ensures) (ap goes (turned_so s p c.in-Turn.turn c.args.self.known c.turned.ensures.turned)
+    ∙ ap (λ k. done k (stride (symbol_of c.args.next).params) s) c.in-Turn.ensures)
