@@ -1,5 +1,5 @@
 -- Where a step leads, and what is drawn on the way.
-use Rattle.std.proofs.Common.{◌≡◌, ℕ, zero, suc, Bool, true, false, cond, eqb, [], ◌∷◌, take, ℤ, nat_abs, refl, ◌∙◌, w32, to_z, of_z}
+use Rattle.std.proofs.Common.{◌≡◌, ℕ, zero, suc, Bool, cond, eqb, [], ◌∷◌, take, ℤ, nat_abs, refl, ◌∙◌, arith, w32, to_z, of_z}
 use Rattle.std.proofs.lemmas.Int.{to_z-of_z}
 use Rattle.word.specs.declared.module.Module.{Module}
 use Rattle.word.specs.Records.{symbol_of}
@@ -27,10 +27,7 @@ abbrev tested : Bool → Bool → Bool → Stance → Deed → Deed
 tested a b c s d = cond a (cond b (goes s) (cond c d (breaks 42))) (breaks 41)
 
 lined : (a b c : Bool) (s t : Stance) (l : Stroke) → with_line b l (tested a b c s (goes t)) ≡ tested a b c s (draws l t)
-lined true true c s t l = refl
-lined true false true s t l = refl
-lined true false false s t l = refl
-lined false b c s t l = refl
+lined a b c s t l = grind arith
 
 pub drawn_so : (n : ℤ) (s : Stance) → with_line (eqb (nat_abs n) 0) (line n s) (done Move n s) ≡ done Draw n s
 drawn_so n s = lined (is_length n) (eqb (nat_abs n) 0) (all_in_bounds (ahead n s).place) s (ahead n s) (line n s)

@@ -1,13 +1,12 @@
 -- A table of turns that passes the test has the vector rule at each of its entries.
-use Rattle.std.proofs.Common.{◌≡◌, ℕ, zero, suc, ◌+◌, ◌<◌, true, ltb, List, [], ◌∷◌, length, get_or, refl, add-zero, add-suc, suc-add, zero-add, arith}
+use Rattle.std.proofs.Common.{◌≡◌, ℕ, zero, suc, ◌+◌, ◌<◌, true, ltb, List, [], ◌∷◌, length, get_or, add-zero, add-suc, suc-add, zero-add, arith}
 use denote.Enum.Declared.{tag_of}
 use Rattle.std.proofs.lemmas.Bool.{and_parts, ltb-true}
 use Rattle.turtle.specs.Turns.{faces, rotated}
 use Rattle.turtle.specs.Table.{entry, agrees, row_agrees, table_agrees}
 use Rattle.turtle.specs.contracts.turn.Turn.{the_type}
 use Rattle.turtle.specs.declared.turn.Turn.{Turn}
-use Rattle.turtle.proofs.Same.{faces_so_true}
-use Rattle.turtle.proofs.Turns.{at_turn}
+use Rattle.turtle.proofs.Tests.{faces_so_true, at_turn}
 
 row_at : (rows : List (List ℕ)) (n k : ℕ) → table_agrees n rows ≡ true → k < length rows → row_agrees (n + k) (get_or rows k []) ≡ true
 row_at [] n k h l = absurd (omega arith)
