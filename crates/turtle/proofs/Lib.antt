@@ -2,4 +2,3 @@ pub mod Tests
 pub mod Table
 pub mod Turning
 pub mod Steps
-pub mod Examples

@@ -24,6 +24,7 @@ fn asked(next: Module) -> i32
     if next.count == 0 { 1 } else { next.a }
 }
 
+// A function of its own: with the range in `ahead` the proof of that did not close.
 fn is_length(number: i32) -> bool
     ensures { result ≡ is_length number }
 {
@@ -38,7 +39,7 @@ impl Pose {
         Direction::ALL[usize::from(self.orientation / 4)]
     }
 
-    // The coordinates at this length ahead.
+    // The coordinates at this length ahead, which may lie too far out for a place.
     fn place_ahead(self, length: i32) -> (i32, i32, i32)
         requires { is_length length ≡ true }
         ensures { vec result.0 result.1 result.2 ≡ plus (point_of self.place) (times length (vector (self.orientation / 4))) }

@@ -8,6 +8,7 @@ use super::Pose;
 
 impl Pose {
     /// At the origin, with +y ahead and −x to the left.
+    #[tactic(auto, unfolding(crate::specs::Turns::oriented, crate::specs::Turns::reoriented))]
     pub fn home() -> Pose
         ensures start { stance_of result ≡ home }
         ensures examples { Deeds }
@@ -19,6 +20,7 @@ impl Pose {
     }
 
     /// The coordinates of the place, and the number of the orientation.
+    // Plain numbers, by value: so a pose is told outside this crate.
     pub fn whereabouts(&self) -> ((i32, i32, i32), u8)
         ensures { stance result.0.0 result.0.1 result.0.2 result.1 ≡ stance_of self.now }
     {
