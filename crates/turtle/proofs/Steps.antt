@@ -1,12 +1,16 @@
 -- Where a step leads, and what is drawn on the way.
-use Rattle.std.proofs.Common.{◌≡◌, ℕ, zero, suc, Bool, cond, eqb, [], ◌∷◌, take, ℤ, nat_abs, refl, ◌∙◌, arith, w32, to_z, of_z}
-use Rattle.std.proofs.lemmas.Int.{to_z-of_z}
+use Rattle.std.proofs.Common.{◌≡◌, ℕ, zero, suc, Bool, cond, eqb, [], ◌∷◌, take, ℤ, negsuc, ◌*ℤ◌, neg_ℤ, nat_abs, refl, ◌∙◌, arith, w32, to_z, of_z}
+use Rattle.std.proofs.lemmas.Int.{ints, to_z-of_z}
 use Rattle.word.specs.declared.module.Module.{Module}
 use Rattle.word.specs.Records.{symbol_of}
 use Rattle.word.proofs.Sound.{a_exact}
 use Rattle.turtle.specs.Poses.{Stance, Stroke, all_in_bounds}
 use Rattle.turtle.specs.Deeds.{Deed, goes, draws, breaks, stride, ahead, line, is_length, done}
 use Rattle.turtle.specs.declared.command.Command.TheVariants.{Draw, Move}
+
+-- the length along a direction below 0
+pub turned_back : (n : ℤ) → n *ℤ negsuc 0 ≡ neg_ℤ n
+turned_back n = omega (arith, ints)
 
 -- the first parameter of a module that has one
 front : (k : ℕ) (a b c : ℤ) → (k ≡ 0 → ⊥) → a ≡ stride (take k (a ∷ b ∷ c ∷ []))

@@ -1,7 +1,6 @@
 ghost use Rattle.std.specs.Prelude.{◌≡◌, ◌/◌, true, pos, ◌≢◌, OnOk};
 ghost use Rattle.word.specs.Records.{symbol_of};
-ghost use Rattle.turtle.specs.Vectors.{vec, vector, plus, times};
-ghost use Rattle.turtle.specs.Stances.{point_of, number_of, stance_of, stroke_of};
+ghost use Rattle.turtle.specs.Stances.{number_of, stance_of, stroke_of};
 ghost use Rattle.turtle.specs.Deeds.{is_length, stride, line, done, deed};
 ghost use Rattle.turtle.specs.Acts.{step_of, deed_of};
 ghost use Rattle.turtle.specs.declared.command.Command.TheVariants.{Draw, Move};
@@ -39,22 +38,6 @@ impl Pose {
         Direction::ALL[usize::from(self.orientation / 4)]
     }
 
-    // The coordinates at this length ahead, which may lie too far out for a place.
-    fn place_ahead(self, length: i32) -> (i32, i32, i32)
-        requires { is_length length ≡ true }
-        ensures { vec result.0 result.1 result.2 ≡ plus (point_of self.place) (times length (vector (self.orientation / 4))) }
-    {
-        let Place { x, y, z } = self.place;
-        match self.heading() {
-            Direction::PlusX => (x + length, y, z),
-            Direction::MinusX => (x - length, y, z),
-            Direction::PlusY => (x, y + length, z),
-            Direction::MinusY => (x, y - length, z),
-            Direction::PlusZ => (x, y, z + length),
-            Direction::MinusZ => (x, y, z - length),
-        }
-    }
-
     // The pose at this length ahead, if the turtle may go there.
     fn ahead(self, length: i32) -> Result<Pose, Limit>
         ensures step { step_of result ≡ done Move length (stance_of self) }
@@ -66,7 +49,7 @@ impl Pose {
         if length == 0 {
             return Ok(self);
         }
-        let (x, y, z) = self.place_ahead(length);
+        let (x, y, z) = self.place.ahead(self.heading(), length);
         let Some(place) = Place::new(x, y, z) else {
             return Err(Limit::OutOfBounds);
         };
