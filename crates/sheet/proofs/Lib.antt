@@ -1,4 +1,3 @@
 pub mod Bytes
-pub mod Contents
 pub mod Reading
 pub mod Recording

@@ -1,26 +1,27 @@
 -- A record read back is the segment.
-use Rattle.std.proofs.Common.{◌≡◌, ℕ, zero, suc, ◌+◌, ◌-◌, ◌*◌, ◌/◌, ◌%◌, ◌^◌, ◌<◌, ◌≤◌, ltb, ℤ, pos, negsuc, neg_ℤ, nat_abs, ap, ◌∙◌, pow-suc, arith}
+use Rattle.std.proofs.Common.{◌≡◌, ℕ, true, zero, suc, ◌+◌, ◌*◌, ◌/◌, ◌%◌, ◌^◌, ◌<◌, ◌≤◌, ℤ, pos, negsuc, nat_abs, ap, ◌∙◌, pow-suc, arith}
 use Rattle.std.proofs.lemmas.Nat.{div-add-mod', div_below}
 use Rattle.std.proofs.lemmas.List.Sums.{fold_push}
-use Rattle.std.proofs.lemmas.Bool.{lt-ltb, le-ltb, cond-true, cond-false}
-use Rattle.turtle.specs.Vectors.{vec}
-use Rattle.turtle.specs.Poses.{stroke}
-use Rattle.turtle.specs.Stances.{stroke_of}
+use Rattle.std.proofs.lemmas.Int.{ints}
+use Rattle.std.proofs.lemmas.Bool.Decides.{nat_tests}
+use Rattle.turtle.specs.Vectors.{Vector}
+use Rattle.turtle.specs.Poses.{all_in_bounds}
+use Rattle.turtle.specs.Stances.{number_of, stroke_of}
+use Rattle.turtle.specs.declared.direction.Direction.{Direction}
 use Rattle.turtle.specs.declared.segment.Segment.{Segment}
-use Rattle.turtle.proofs.Bounds.{near}
-use Rattle.sheet.specs.Records.{twos, last_bytes, record_of, number, cut, signed, unpacked, read_back}
+use Rattle.sheet.specs.Records.{twos, last_bytes, record_of, number, cut, signed, read_back}
+
+near : (v : Vector) → all_in_bounds v ≡ true → (nat_abs v.x ≤ 30_000) × (nat_abs v.y ≤ 30_000) × (nat_abs v.z ≤ 30_000)
+near v h = (grind (arith, nat_tests), grind (arith, nat_tests), grind (arith, nat_tests))
 
 -- a coordinate fits 16 bits
-pub fits : (z : ℤ) → nat_abs z ≤ 30_000 → twos 16 z < 2 ^ 16
+fits : (z : ℤ) → nat_abs z ≤ 30_000 → twos 16 z < 2 ^ 16
 fits (pos n) h = omega arith
 fits (negsuc n) h = omega arith
 
-twice : (n : ℕ) → n < 2 ^ 15 → neg_ℤ (pos (2 ^ 16 - (2 ^ 16 - suc n))) ≡ negsuc n
-twice n h = ap (λ (m : ℕ). neg_ℤ (pos m)) (let e : 2 ^ 16 - (2 ^ 16 - suc n) ≡ suc n = omega arith in e)
-
 unsigned : (z : ℤ) → nat_abs z ≤ 30_000 → signed 16 (twos 16 z) ≡ z
-unsigned (pos n) h = cond-true (ltb n (2 ^ 15)) _ _ (lt-ltb n (2 ^ 15) (omega arith))
-unsigned (negsuc n) h = cond-false (ltb (2 ^ 16 - suc n) (2 ^ 15)) _ _ (le-ltb (2 ^ 16 - suc n) (2 ^ 15) (omega arith)) ∙ twice n (omega arith)
+unsigned (pos n) h = grind (arith, nat_tests)
+unsigned (negsuc n) h = grind (arith, ints, nat_tests)
 
 numbered : (k n : ℕ) → n < 256 ^ k → number (last_bytes k n) ≡ n
 numbered zero n h = omega arith
@@ -36,28 +37,26 @@ module _ (x y z h l : ℕ) (fx : x < 2 ^ 16) (fy : y < 2 ^ 16) (fz : z < 2 ^ 16)
   small : whole < 256 ^ 8
   small = omega arith
 
-  pub taken_apart : (cut 48 16 whole ≡ x) × (cut 32 16 whole ≡ y) × (cut 16 16 whole ≡ z) × (cut 13 3 whole ≡ h) × (cut 1 12 whole ≡ l)
+  taken_apart : (cut 48 16 whole ≡ x) × (cut 32 16 whole ≡ y) × (cut 16 16 whole ≡ z) × (cut 13 3 whole ≡ h) × (cut 1 12 whole ≡ l)
   taken_apart = (omega arith, omega arith, omega arith, omega arith, omega arith)
 
-  pub whole_again : number (last_bytes 8 whole) ≡ whole
+  whole_again : number (last_bytes 8 whole) ≡ whole
   whole_again = numbered 8 whole small
 
-same_parts : {x x' y y' z z' : ℤ} {h h' l l' : ℕ} → x ≡ x' → y ≡ y' → z ≡ z' → h ≡ h' → l ≡ l' → stroke x y z h l ≡ stroke x' y' z' h' l'
-same_parts ex ey ez eh el = cc
+-- a direction fits 3 bits
+small_number : (d : Direction) → number_of d < 2 ^ 3
+small_number d = grind arith
 
 pub reads_back : (s : Segment) → read_back (record_of (stroke_of s)) ≡ stroke_of s
 unfolding record_of
 reads_back s =
-    let b = near (vec s.x s.y s.z) s.near in
-    let fx = fits s.x b.0 in
-    let fy = fits s.y b.1 in
-    let fz = fits s.z b.2 in
-    let fh : s.heading < 2 ^ 3 = omega (arith, s.known) in
-    let fl : s.length < 2 ^ 12 = omega (arith, s.short) in
-    let p = taken_apart (twos 16 s.x) (twos 16 s.y) (twos 16 s.z) s.heading s.length fx fy fz fh fl in
-    ap unpacked (whole_again (twos 16 s.x) (twos 16 s.y) (twos 16 s.z) s.heading s.length fx fy fz fh fl)
-    ∙ same_parts
-    (ap (signed 16) p.0 ∙ unsigned s.x b.0)
-    (ap (signed 16) p.1 ∙ unsigned s.y b.1)
-    (ap (signed 16) p.2 ∙ unsigned s.z b.2)
-    p.3 p.4
+    let v = stroke_of s in
+    let b = near v.start s.start.near in
+    let fx = fits v.start.x b.0 in
+    let fy = fits v.start.y b.1 in
+    let fz = fits v.start.z b.2 in
+    let fh = small_number s.heading in
+    let fl : v.length < 2 ^ 12 = omega (arith, s.short) in
+    let p = taken_apart (twos 16 v.start.x) (twos 16 v.start.y) (twos 16 v.start.z) v.heading v.length fx fy fz fh fl in
+    let w = whole_again (twos 16 v.start.x) (twos 16 v.start.y) (twos 16 v.start.z) v.heading v.length fx fy fz fh fl in
+    rw (w, p.0, p.1, p.2, p.3, p.4, unsigned v.start.x b.0, unsigned v.start.y b.1, unsigned v.start.z b.2)

@@ -31,20 +31,12 @@ fn appended(bits: u64, width: u32, value: u16) -> u64
 fn pack(segment: Segment) -> u64
     ensures { result ≡ packed 0 (fields (stroke_of segment)) }
 {
-    let bits = appended(0, 16, complement(segment.x));
-    let bits = appended(bits, 16, complement(segment.y));
-    let bits = appended(bits, 16, complement(segment.z));
-    let bits = appended(bits, 3, u16::from(segment.heading));
+    let bits = appended(0, 16, complement(segment.start.x));
+    let bits = appended(bits, 16, complement(segment.start.y));
+    let bits = appended(bits, 16, complement(segment.start.z));
+    let bits = appended(bits, 3, segment.heading as u16);
     let bits = appended(bits, 12, segment.length);
     appended(bits, 1, 0)
-}
-
-// Writes the fields of a segment's record into the first bytes.
-fn write_fields(bytes: &mut [u8], segment: Segment)
-    requires { 8 ≤ length bytes.old }
-    ensures { bytes.new ≡ record_of (stroke_of segment) ++ drop 8 bytes.old }
-{
-    bytes[0..BYTES].copy_from_slice(&pack(segment).to_be_bytes());
 }
 
 // Writes a segment's record into a buffer, from a byte on.
@@ -52,5 +44,5 @@ pub(crate) fn write_record(buffer: &mut [u8], at: usize, segment: Segment)
     requires { at + 8 ≤ length buffer.old }
     ensures { buffer.new ≡ take at buffer.old ++ (record_of (stroke_of segment) ++ drop (at + 8) buffer.old) }
 {
-    write_fields(&mut buffer[at..], segment);
+    buffer[at..at + BYTES].copy_from_slice(&pack(segment).to_be_bytes());
 }

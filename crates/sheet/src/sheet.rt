@@ -10,6 +10,7 @@ use turtle::segment::Segment;
 pub const MOST: u32 = 16_000_000;
 
 /// A sheet is full.
+// The only refusal of a sheet: an enum of one case, with its number, would be no plainer.
 #[derive(Clone, Copy, PartialEq, Eq, Debug)]
 pub struct NoSpace;
 

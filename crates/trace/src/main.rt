@@ -35,12 +35,10 @@ fn walk<S: Sheet>(rt: &impl Print, sheet: &mut S) -> io::Result<()> {
             continue;
         };
         match pose.act(next) {
-            Ok(act) => match act {
-                Act::Goes(there) => pose = there,
-                Act::Draws(segment, there) => match sheet.put(segment) {
-                    Ok(()) => pose = there,
-                    Err(full) => println!(rt; "{next} is {}", full.cause())?,
-                },
+            Ok(Act::Goes(there)) => pose = there,
+            Ok(Act::Draws(segment, there)) => match sheet.put(segment) {
+                Ok(()) => pose = there,
+                Err(full) => println!(rt; "{next} is {}", full.cause())?,
             },
             Err(limit) => println!(rt; "{next} is {}", limit.cause())?,
         }

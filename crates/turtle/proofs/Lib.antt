@@ -1,7 +1,4 @@
-pub mod Same
-pub mod Turns
+pub mod Tests
 pub mod Table
 pub mod Turning
-pub mod Bounds
 pub mod Steps
-pub mod Examples

@@ -16,8 +16,8 @@ pub enum Act {
 /// ±30,000.
 #[derive(Clone, Copy, PartialEq, Eq, Debug)]
 pub enum Limit {
-    TooLong,
-    OutOfBounds,
+    TooLong = 41,
+    OutOfBounds = 42,
 }
 
 impl Limit {
@@ -25,9 +25,6 @@ impl Limit {
     pub fn cause(self) -> u8
         ensures { result ≡ cause_of self }
     {
-        match self {
-            Limit::TooLong => 41,
-            Limit::OutOfBounds => 42,
-        }
+        self as u8
     }
 }

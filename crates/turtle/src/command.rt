@@ -13,11 +13,11 @@ pub enum Command {
     Nothing,
 }
 
-impl Command {
-    /// What this letter asks.
-    pub fn of(letter: char) -> Command
-        ensures { result ≡ command_of letter }
-    {
+// What a letter asks.
+impl From<char> for Command {
+    ghost from_gives = { λ letter command. command ≡ command_of letter };
+
+    fn from(letter: char) -> Command {
         match letter {
             'F' => Command::Draw,
             'f' => Command::Move,

@@ -3,6 +3,8 @@
 
 pub mod act;
 pub mod command;
+pub mod direction;
+pub mod place;
 pub mod pose;
 pub mod segment;
 pub mod turn;

@@ -3,26 +3,28 @@ ghost use Rattle.turtle.specs.Poses.{home, stance};
 ghost use Rattle.turtle.specs.Examples.{Deeds};
 ghost use Rattle.turtle.specs.Stances.{stance_of};
 
+use super::super::place::Place;
 use super::Pose;
 
 impl Pose {
     /// At the origin, with +y ahead and −x to the left.
+    #[tactic(auto, unfolding(crate::specs::Turns::oriented, crate::specs::Turns::reoriented))]
     pub fn home() -> Pose
         ensures start { stance_of result ≡ home }
         ensures examples { Deeds }
     {
         Pose {
-            x: 0,
-            y: 0,
-            z: 0,
+            place: Place { x: 0, y: 0, z: 0 },
             orientation: 9,
         }
     }
 
     /// The coordinates of the place, and the number of the orientation.
+    // Plain numbers, by value: so a pose is told outside this crate.
     pub fn whereabouts(&self) -> ((i32, i32, i32), u8)
         ensures { stance result.0.0 result.0.1 result.0.2 result.1 ≡ stance_of self.now }
     {
-        ((self.x, self.y, self.z), self.orientation)
+        let Place { x, y, z } = self.place;
+        ((x, y, z), self.orientation)
     }
 }

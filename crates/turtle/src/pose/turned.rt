@@ -42,7 +42,7 @@ fn after(table: &[[u8; 7]; 24], orientation: u8, turn: Turn) -> u8
     ensures known { result < 24 }
     ensures rule { faces result ≡ rotated turn (faces orientation) }
 {
-    table[orientation as usize][turn as usize]
+    table[usize::from(orientation)][turn as usize]
 }
 
 impl Pose {
@@ -52,9 +52,7 @@ impl Pose {
         ensures laws { Turning }
     {
         Pose {
-            x: self.x,
-            y: self.y,
-            z: self.z,
+            place: self.place,
             orientation: after(&TURNS, self.orientation, turn),
         }
     }

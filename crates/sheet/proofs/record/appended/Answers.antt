@@ -1,5 +1,4 @@
-use Rattle.std.proofs.Common.{◌-◌, ◌∙◌, ap₂, arith}
-use lib.Bits.{bit_or}
+use Rattle.std.proofs.Common.{◌-◌, arith}
 use Rattle.std.proofs.lemmas.Nat.{shl_whole, or_shifted}
 use Rattle.sheet.proofs.record.appended.Goals as goal
 
@@ -7,4 +6,4 @@ pub returns : goal.returns
 returns c =
     let b = c.args.bits in
     let w = c.args.width in
-    ap₂ bit_or (shl_whole b (64 - w) w 64 c.requires.room (omega arith)) c.from.ensures ∙ or_shifted b w c.args.value c.requires.fits
+    rw (shl_whole b (64 - w) w 64 c.requires.room (omega arith), c.from.ensures) (or_shifted b w c.args.value c.requires.fits)
