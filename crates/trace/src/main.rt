@@ -31,7 +31,7 @@ const WORD: [(u8, i32); 14] = [
 fn walk<S: Sheet>(rt: &impl Print, sheet: &mut S) -> io::Result<()> {
     let mut pose = Pose::home();
     for (letter, parameter) in WORD {
-        let Some(next) = Module::new(letter, 1, parameter, 0, 0) else {
+        let Some(next) = Module::new(letter, &[parameter]) else {
             continue;
         };
         match pose.act(next) {

@@ -31,7 +31,7 @@ impl<T: Copy, const N: usize> Row<T, N> {
 
     /// One value more at the end, unless the row is full.
     pub fn push(&mut self, value: T)
-        ensures { held self.new ≡ take N (held self.old ++ (value ∷ [])) }
+        ensures { held self.new ≡ (if nat_lt (length (held self.old)) N then held self.old ++ (value ∷ []) else held self.old) }
     {
         if self.len < N {
             self.places[self.len] = value;
