@@ -33,15 +33,6 @@ valid_append (s ∷ v) w a b =
     let parts = and_parts (valid s) (all_valid v) a in
     and_from (valid s) (all_valid (v ++ w)) parts.0 (valid_append v w parts.1 b)
 
--- what is left of a part of which some was told, where x brackets of it are open, and the told word behind it
-pub partly : (n d x : ℕ) (v : List Symbol) (t : Told) → all_valid v ≡ true → balanced x v ≡ true → d + deepest x v ≤ 32 → GoesOn (n + length v) d t → GoesOn n (d + x) (record { modules = v ++ t.modules; ending = t.ending })
-partly n d x v t a b low on = record {
-  modules = valid_append v t.modules a on.modules;
-  brackets = inside d x v t.modules t.ending b low on.brackets;
-  ending = on.ending;
-  few = omega (arith, length-append v t.modules, on.few);
-}
-
 -- a part of a lawful told word: of the module s at depth d, behind n modules
 abbrev pub Good : ℕ → ℕ → Symbol → Part → Type 0
 Good n d s (stops f) = in_bounds (broken f) ≡ true

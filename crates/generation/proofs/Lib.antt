@@ -9,7 +9,6 @@ pub mod Lawful
 pub mod Turning
 pub mod Spanning
 pub mod Rowing
-pub mod Fetching
 pub mod Seeing
 pub mod Looks
 pub mod Seeking

@@ -1,21 +1,17 @@
 -- The outcome of one module, as the code finds it.
-use Rattle.std.proofs.Common.{◌≡◌, ℕ, ◌+◌, ◌<◌, ◌≤◌, Bool, true, false, cond, not, ◌&&◌, ◌||◌, eqb, leb, List, [], ◌∷◌, length, get_or, None, Option, sym, refl, ap, ◌∙◌, subst, arith, le-leb}
+use Rattle.std.proofs.Common.{◌≡◌, ℕ, ◌+◌, ◌<◌, ◌≤◌, Bool, true, false, cond, not, ◌&&◌, ◌||◌, eqb, leb, List, [], ◌∷◌, length, sym, refl, ap, ◌∙◌, subst, arith, le-leb}
 use lib.ListN.{length-map}
 use borrow.Author.Tests.{lt-leb}
 use Rattle.std.proofs.lemmas.Bool.{and_parts, and_from, eqb-true}
 use Rattle.std.proofs.lemmas.Bool.Decides.{nat_tests}
-use Rattle.std.specs.Option.{option_map}
-use Rattle.std.proofs.lemmas.List.{get_or_default}
-use Rattle.word.specs.declared.module.Module.{Module}
 use Rattle.word.specs.Symbols.{Symbol, is_open, is_close, is_bracket}
 use Rattle.word.specs.Words.{after}
 use Rattle.word.specs.Records.{symbol_of}
 use Rattle.books.specs.declared.modules.Modules.{Modules}
-use Rattle.books.specs.Outcomes.{Outcome, itself, grown, fault}
+use Rattle.books.specs.Outcomes.{Outcome, itself, grown}
 use Rattle.books.specs.Nesting.{balanced, deepest}
 use Rattle.books.specs.Few.{modules_in, symbols_in}
 use Rattle.generation.specs.Generations.{found, adds, stops, added, worked}
-use Rattle.generation.specs.Stream.{shown}
 use Rattle.generation.specs.Spans.{spans}
 use Rattle.generation.proofs.Agreement.{after_plain}
 use Rattle.generation.proofs.Lawful.{after_inside}
@@ -63,18 +59,8 @@ module _ (g n i d : ℕ) (s : Symbol) where
   pub is_itself : (o : Outcome) → itself ≡ o → worked g n i d s o ≡ added g n i (s ∷ [])
   is_itself o e = ap (worked g n i d s) (sym e)
 
-  pub is_fault : (o : Outcome) (c : ℕ) → fault c ≡ o → worked g n i d s o ≡ stops (found g i c)
-  is_fault o c e = ap (worked g n i d s) (sym e)
-
-  pub is_deep : (o : Outcome) (v : List Symbol) → grown v ≡ o → 32 < d + deepest 0 v → worked g n i d s o ≡ stops (found g i 33)
-  is_deep o v e h = ap (worked g n i d s) (sym e) ∙ ap (λ (b : Bool). cond b (added g n i v) (stops (found g i 33))) (lt-leb (d + deepest 0 v) 32 h)
-
   pub is_grown : (o : Outcome) (v : List Symbol) → grown v ≡ o → d + deepest 0 v ≤ 32 → worked g n i d s o ≡ added g n i v
   is_grown o v e h = ap (worked g n i d s) (sym e) ∙ ap (λ (b : Bool). cond b (added g n i v) (stops (found g i 33))) (le-leb (d + deepest 0 v) 32 h)
-
--- the left neighbour that is kept for a depth
-pub left_is : (lefts : List (Option Module)) (d e : ℕ) (x : Option Module) → x ≡ get_or lefts d x → d ≡ e → d < length lefts → option_map symbol_of x ≡ shown symbol_of lefts e
-left_is lefts d e x is same low = ap (option_map symbol_of) (is ∙ get_or_default lefts d x None low) ∙ ap (shown symbol_of lefts) same
 
 -- no window begins deeper than 32
 pub low : (r : Rewriter) → r.window.first.brackets ≤ 32

@@ -1,21 +1,8 @@
 -- A row of which a part is held.
-use Rattle.std.proofs.Common.{◌≡◌, ℕ, suc, ◌+◌, ◌-◌, ◌<◌, ◌≤◌, List, [], ◌∷◌, ◌++◌, length, get_or, take, drop, set, sym, ap, ◌∙◌, arith, length-append, length-drop, length-take-le}
-use Rattle.std.proofs.lemmas.List.{get_or-take, get_or-drop, take-append-le, take_more_set, drop-set-add, drop_more}
+use Rattle.std.proofs.Common.{◌≡◌, ℕ, suc, ◌+◌, ◌-◌, ◌<◌, ◌≤◌, List, [], ◌∷◌, ◌++◌, length, get_or, take, drop, set, sym, ap, ◌∙◌, arith, length-drop}
+use Rattle.std.proofs.lemmas.List.{take_more_set, drop-set-add, drop_more}
 
 module _ {A : Type 0} (row : List A) (start len : ℕ) {n : ℕ} (wide : length row ≡ n) (within : start + len ≤ n) where
-  pub part_length : length (take len (drop start row)) ≡ len
-  part_length = length-take-le len (drop start row) (simp length-drop (omega arith))
-
-  pub part_at : (i : ℕ) (x : A) → i < len → x ≡ get_or row (start + i) x → x ≡ get_or (take len (drop start row)) i x
-  part_at i x h e = e ∙ sym (get_or-take len (drop start row) i x h ∙ get_or-drop start row i x)
-
-  -- moved to the front
-  pub part_moved : (turned : List A) → turned ≡ drop start row ++ take start row → take len turned ≡ take len (drop start row)
-  part_moved turned e = ap (take len) e ∙ take-append-le len (drop start row) (take start row) (simp length-drop (omega arith))
-
-  pub turned_length : (turned : List A) → turned ≡ drop start row ++ take start row → length turned ≡ n
-  turned_length turned e = ap length e ∙ simp (length-append, length-drop) (omega (arith, length-take-le start row (omega arith)))
-
   pub part_more : (x : A) → start + len < n → take (len + 1) (drop start (set row (start + len) x)) ≡ take len (drop start row) ++ (x ∷ [])
   part_more x room = ap (take (len + 1)) (drop-set-add start row len x) ∙ take_more_set (drop start row) len x (simp length-drop (omega arith))
 

@@ -2,7 +2,7 @@
 use Rattle.std.proofs.Common.{◌≡◌, ℕ, ◌≤◌, true, not, ◌&&◌, eqb, leb, List, [], ◌∷◌, ◌++◌, sym, refl, subst, arith, eq-eqb, le-leb, leb-true}
 use Rattle.std.proofs.lemmas.Bool.Decides.{nat_tests}
 use Rattle.std.proofs.lemmas.Bool.{and_parts, and_from, eqb-true}
-use Rattle.word.specs.Symbols.{Symbol, is_open, is_close}
+use Rattle.word.specs.Symbols.{Symbol, is_close}
 use Rattle.word.specs.Words.{Ending, after, may_stand, nested}
 use Rattle.generation.specs.Spans.{spans}
 

@@ -1,5 +1,5 @@
 -- The depth behind a module that may stand.
-use Rattle.std.proofs.Common.{◌≡◌, ℕ, true, false, IsSome, MatchOption, Some, None, Option, sym, ap, ◌∙◌, rules}
+use Rattle.std.proofs.Common.{◌≡◌, ℕ, true, false, IsSome, MatchOption, Some, None, Option, ap, ◌∙◌, rules}
 use Rattle.std.proofs.lemmas.Bool.{both_ways}
 use Rattle.word.specs.declared.depth.Depth.{Depth}
 use Rattle.word.specs.Symbols.{Symbol}

@@ -12,7 +12,7 @@ use Rattle.books.specs.Outcomes.{becomes}
 use Rattle.books.specs.Few.{modules_in, symbols_in}
 use Rattle.books.specs.Kinds.{closed_book}
 use Rattle.generation.specs.declared.rewriter.Rewriter.{Rewriter}
-use Rattle.generation.specs.Generations.{next, found, Part, adds, stops, added, worked}
+use Rattle.generation.specs.Generations.{next, Part, adds, stops, added, worked}
 use Rattle.generation.specs.Stream.{Table, passed, onward, turn, streamed}
 use Rattle.generation.specs.Tables.{table}
 use Rattle.generation.specs.Spans.{spans}

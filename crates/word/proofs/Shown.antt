@@ -1,5 +1,5 @@
 -- What is printed of a module is its written form.
-use Rattle.std.proofs.Common.{◌≡◌, ℕ, ◌<◌, [], ◌∷◌, ◌++◌, ℤ, sym, ap, ◌∙◌}
+use Rattle.std.proofs.Common.{◌≡◌, ℕ, ◌<◌, [], ◌∷◌, ◌++◌, ℤ}
 use lib.Utf8.{encode}
 use Rattle.std.specs.Fmt.{signed_decimal}
 use Rattle.std.proofs.lemmas.Str.Ascii.{encode_ascii}
@@ -7,9 +7,6 @@ use Rattle.word.specs.Symbols.{symbol}
 use Rattle.word.specs.Text.{written}
 
 module _ (l n : ℕ) (a b c : ℤ) (ascii : l < 128) where
-  pub shown_0 : n ≡ 0 → encode l ≡ written (symbol l n a b c)
-  shown_0 is = encode_ascii l ascii ∙ ap (λ k. written (symbol l k a b c)) (sym is)
-
   pub shown_1 : n ≡ 1 → (x : ℤ) → x ≡ a → encode l ++ (40 ∷ (signed_decimal x ++ (41 ∷ []))) ≡ written (symbol l n a b c)
   shown_1 is x ex = rw (encode_ascii l ascii, ex, is)
 

@@ -1,6 +1,6 @@
 use Rattle.std.proofs.Common.{rules, ◌≡◌, ◌∙◌, sym, ap}
 use Rattle.std.specs.Result.{result_ok}
-use Rattle.word.proofs.Digits.{is_text, below_ten_million, parsed, is_some, none}
+use Rattle.word.proofs.Digits.{is_text, below_ten_million, parsed, is_some}
 use Rattle.word.proofs.numbers.number.Goals as goal
 
 pub returns-in_err-ok-clause-value : goal.returns-in_err-ok-clause-value

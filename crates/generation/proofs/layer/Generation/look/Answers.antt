@@ -75,8 +75,7 @@ loop-at-preserved g c =
     let here = stood s.inner.window v.inner.window (means s.below) (means v.below) inv.0.kept at (Ok (Some x)) seen in
     let longer : Longer v.inner.window at (Ok (Some x)) u.inner.window = search rules in
     let book = c.stands_at.ensures.on.reads.book_stays ∙ inv.0.reads.book_stays in
-    let said = subst (Sifts (closed_book s.inner.book).ignored c.loop-at.depth (symbol_of x)) c.in-On.is (subst (λ (b : ClosedBook). Sifts (closed_book b).ignored c.loop-at.depth (symbol_of x) c.sift.result) book c.sift.ensures) in
-    (
+    let said = subst (Sifts (closed_book s.inner.book).ignored c.loop-at.depth (symbol_of x)) c.in-On.is (subst (λ (b : ClosedBook). Sifts (closed_book b).ignored c.loop-at.depth (symbol_of x) c.sift.result) book c.sift.ensures) in (
       read_on s.inner v.inner u.inner (means s.below) (means v.below) (means u.below) inv.0 c.stands_at.ensures.on,
       omega (arith, longer.1),
       omega (arith, said.0, inv.2),

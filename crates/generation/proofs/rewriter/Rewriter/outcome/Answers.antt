@@ -1,5 +1,4 @@
-use Rattle.std.proofs.Common.{◌≡◌, ℕ, Bool, true, false, cond, List, [], ◌∷◌, map, Ok, Err, Option, Result, sym, ap, ◌∙◌, subst, arith, rules}
-use Rattle.std.specs.Option.{option_map}
+use Rattle.std.proofs.Common.{◌≡◌, Bool, true, cond, [], ◌∷◌, map, Option, Result, sym, ap, ◌∙◌, subst}
 use Rattle.word.specs.declared.fault.Fault.{Fault}
 use Rattle.word.specs.declared.module.Module.{Module}
 use Rattle.word.specs.Symbols.{is_bracket}
@@ -7,11 +6,10 @@ use Rattle.word.specs.Words.{after}
 use Rattle.word.specs.Records.{symbol_of}
 use Rattle.books.specs.Few.{symbols_in}
 use Rattle.generation.specs.declared.rewriter.Rewriter.{Rewriter}
-use Rattle.generation.specs.Generations.{stops, added}
+use Rattle.generation.specs.Generations.{added}
 use Rattle.generation.specs.Spans.{spans}
-use Rattle.generation.specs.Rewriting.{by_right, part_of, Sound}
-use Rattle.generation.proofs.Agreement.{after_plain}
-use Rattle.generation.proofs.Answered.{answers_as, answers_at}
+use Rattle.generation.specs.Rewriting.{by_right, part_of}
+use Rattle.generation.proofs.Answered.{answers_as}
 use Rattle.generation.proofs.rewriter.Rewriter.outcome.Goals as goal
 
 -- a bracket stays, and a letter goes by what is on its right

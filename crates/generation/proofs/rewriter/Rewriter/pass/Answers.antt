@@ -1,15 +1,13 @@
-use Rattle.std.proofs.Common.{◌≡◌, ◌+◌, ◌≤◌, true, sym, refl, ap, ◌∙◌, subst, arith}
+use Rattle.std.proofs.Common.{◌+◌, ◌≤◌, sym, refl, ap, ◌∙◌, subst}
 use lib.ListN.{length-map}
 use Rattle.word.specs.declared.depth.Depth.{Depth}
 use Rattle.word.specs.Words.{after}
 use Rattle.word.specs.Records.{symbol_of}
 use Rattle.books.specs.Few.{modules_in, symbols_in}
 use Rattle.books.specs.Kinds.{closed_book}
-use Rattle.generation.specs.Spans.{spans}
 use Rattle.generation.specs.Stream.{passed}
 use Rattle.generation.specs.Tables.{table}
 use Rattle.generation.proofs.Spanning.{span_last}
-use Rattle.generation.proofs.Outcoming.{low}
 use Rattle.generation.proofs.Passing.{pops, onwards}
 use Rattle.generation.proofs.rewriter.Rewriter.pass.Goals as goal
 
@@ -19,18 +17,6 @@ note-requires c =
     let s = symbol_of c.args.symbol in
     let behind = span_last r.opened.brackets (symbols_in c.args.modules) (after r.window.first.brackets s) c.requires.leads in
     subst (λ (d : Depth). after d.brackets s ≤ 32) (sym c.first-depth.ensures) behind
-
-pub invariant_of-self : goal.invariant_of-self
-invariant_of-self c =
-    let r = c.args.self.now in
-    let popped = pops r.window c.pop.new.self c.args.symbol c.requires.first c.requires.some c.pop.result c.pop.ensures.held c.pop.ensures.first in
-    record {
-      few = omega (arith, c.requires.room, c.len.ensures);
-      inside = omega (arith, c.min-self.ensures);
-      counted = omega (arith, c.len.ensures);
-      joined = subst (λ d. spans r.opened.brackets (symbols_in c.args.modules) d ≡ true) (sym popped.1) c.requires.leads;
-      bounds = r.bounds;
-    }
 
 pub returns : goal.returns
 returns c =

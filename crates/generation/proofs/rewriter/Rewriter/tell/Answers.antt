@@ -1,18 +1,15 @@
-use Rattle.std.proofs.Common.{◌≡◌, ◌<◌, true, List, map, length, get_or, refl, ap, ◌∙◌, subst, arith}
+use Rattle.std.proofs.Common.{◌≡◌, ◌<◌, true, List, map, length, get_or, ap, ◌∙◌, subst, arith}
 use Rattle.word.specs.declared.module.Module.{Module}
 use Rattle.word.specs.Symbols.{Symbol}
 use Rattle.books.specs.Few.{modules_in}
 use Rattle.generation.specs.declared.rewriter.Rewriter.{Rewriter}
-use Rattle.word.specs.Words.{after, may_stand}
+use Rattle.word.specs.Words.{may_stand}
 use Rattle.word.specs.Records.{symbol_of}
 use Rattle.generation.specs.Spans.{spans}
 use Rattle.generation.proofs.Spanning.{span_stands}
 use Rattle.generation.proofs.Stepping.{there, behind}
-use Rattle.generation.proofs.Telling.{none_pending, first_pending, rest, rest_spans, rest_fewer}
+use Rattle.generation.proofs.Telling.{first_pending, rest, rest_spans, rest_fewer}
 use Rattle.generation.proofs.rewriter.Rewriter.tell.Goals as goal
-
-pub returns-then-self-len : goal.returns-then-self-len
-returns-then-self-len c = (none_pending c.args.self.now (omega (arith, c.len.ensures)), refl)
 
 -- the next module may stand, and the depth behind it is known
 module _ (r : Rewriter) (fs : List Module) (same : fs ≡ modules_in r.growth) (x : Module) (some : r.told < length fs) (is : x ≡ get_or fs r.told x) where
@@ -43,15 +40,3 @@ invariant_of-self c =
           ∙ rest_spans r fs c.filled.ensures x some c.index-filled-self.is;
       bounds = r.bounds;
     }
-
-pub returns : goal.returns
-returns c =
-    let r = c.args.self.now in
-    let x = c.index-filled-self.result in
-    let fs = c.filled.result.now in
-    let some : r.told < length fs = omega (arith, c.len.ensures, ap length c.filled.ensures) in (
-      first_pending r fs c.filled.ensures x some c.index-filled-self.is,
-      behind r.opened.brackets (symbol_of x) (may r fs c.filled.ensures x some c.index-filled-self.is) c.after.result c.after.ensures c.unwrap-self.result c.unwrap-self.ensures,
-      refl,
-      record { book_stays = refl; generation_stays = refl; window_stays = refl; lefts_stay = refl; made_stays = refl; place_stays = refl },
-    )

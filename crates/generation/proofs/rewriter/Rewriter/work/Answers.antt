@@ -1,10 +1,9 @@
-use Rattle.std.proofs.Common.{◌≡◌, ℕ, ◌+◌, ◌≤◌, true, List, [], ◌∷◌, map, Ok, Option, sym, ap, ◌∙◌, subst, arith}
+use Rattle.std.proofs.Common.{◌≡◌, ℕ, ◌+◌, ◌≤◌, true, [], ◌∷◌, map, Ok, Option, sym, ap, ◌∙◌, subst, arith}
 use Rattle.std.specs.Option.{option_map}
 use Rattle.word.specs.declared.depth.Depth.{Depth}
 use Rattle.word.specs.declared.module.Module.{Module}
 use Rattle.word.specs.Symbols.{Symbol}
 use Rattle.word.specs.Records.{symbol_of}
-use Rattle.expr.specs.Records.{cause_number}
 use Rattle.books.specs.declared.growth.Growth.{Growth}
 use Rattle.books.specs.Nesting.{deepest}
 use Rattle.books.specs.Outcomes.{becomes}
@@ -12,10 +11,10 @@ use Rattle.books.specs.Grown.{outcome_of}
 use Rattle.books.specs.Kinds.{closed_book}
 use Rattle.books.specs.Few.{symbols_in}
 use Rattle.generation.specs.declared.rewriter.Rewriter.{Rewriter}
-use Rattle.generation.specs.Generations.{found, stops, added}
+use Rattle.generation.specs.Generations.{added}
 use Rattle.generation.specs.Spans.{spans}
 use Rattle.generation.specs.Tables.{table}
-use Rattle.generation.proofs.Outcoming.{low, letter_spans, growth_spans, is_itself, is_fault, is_deep, is_grown}
+use Rattle.generation.proofs.Outcoming.{low, letter_spans, growth_spans, is_itself, is_grown}
 use Rattle.generation.proofs.Answered.{answers_as}
 use Rattle.generation.proofs.rewriter.Rewriter.work.Goals as goal
 
@@ -36,17 +35,6 @@ returns-in-Ok-None c =
     (is_itself r.generation r.produced r.place d s _ is ∙ ap (added r.generation r.produced r.place) (sym one))
     (c.add.ensures d (subst (λ l. spans d l d ≡ true) (sym one) (letter_spans d s (low r) c.requires)))
 
-pub returns-in-Ok-Some : goal.returns-in-Ok-Some
-returns-in-Ok-Some c =
-    let r = c.args.self.now in
-    let s = symbol_of c.args.symbol in
-    let growth = c.in-Ok-Some.growth in
-    let deep = ap (λ (e : Depth). e.brackets) c.first-depth.ensures in
-    let is = ap (λ (g : Option Growth). outcome_of (Ok g)) (sym c.in-Ok-Some.field-0-is) ∙ c.in-Ok-Some.ensures.value ∙ kept r c.at.result c.first-depth.result.brackets c.at.ensures deep s (option_map symbol_of c.args.right) in (
-      is_deep r.generation r.produced r.place r.window.first.brackets s _ (symbols_in growth.modules) is (omega (arith, growth.deep, deep, low r)) ∙ ap stops (sym c.found.ensures.is),
-      c.found.ensures.bounds,
-    )
-
 pub returns-in-Ok-Some-2 : goal.returns-in-Ok-Some-2
 returns-in-Ok-Some-2 c =
     let r = c.args.self.now in
@@ -59,14 +47,3 @@ returns-in-Ok-Some-2 c =
     answers_as r.produced d d _ (added r.generation r.produced r.place (symbols_in growth.modules)) c.add-in-Ok-Some-2.result
     (is_grown r.generation r.produced r.place d s _ (symbols_in growth.modules) is fits)
     (c.add-in-Ok-Some-2.ensures d (growth_spans d (symbols_in growth.modules) growth.nested fits))
-
-pub returns-in-Err : goal.returns-in-Err
-returns-in-Err c =
-    let r = c.args.self.now in
-    let s = symbol_of c.args.symbol in
-    let deep = ap (λ (e : Depth). e.brackets) c.first-depth.ensures in (
-      is_fault r.generation r.produced r.place r.window.first.brackets s _ (cause_number c.in-Err.cause)
-          (c.in-Err.ensures.value ∙ kept r c.at.result c.first-depth.result.brackets c.at.ensures deep s (option_map symbol_of c.args.right))
-          ∙ ap stops (sym (c.found-in-Err.ensures.is ∙ ap (λ n. found r.generation r.place n) c.number.ensures)),
-      c.found-in-Err.ensures.bounds,
-    )

@@ -1,4 +1,4 @@
-use Rattle.std.proofs.Common.{◌≡◌, ◌≤◌, true, not, ◌&&◌, eqb, List, [], ◌∷◌, ◌++◌, map, sym, ap, ◌∙◌, subst, arith, length-set}
+use Rattle.std.proofs.Common.{◌≡◌, true, not, ◌&&◌, eqb, List, [], ◌∷◌, ◌++◌, map, ap, ◌∙◌, arith, length-set}
 use Rattle.std.proofs.lemmas.List.{map_push}
 use Rattle.std.proofs.lemmas.Bool.{and_parts}
 use Rattle.word.specs.declared.depth.Depth.{Depth}
@@ -11,18 +11,13 @@ use Rattle.generation.specs.Spans.{spans}
 use Rattle.generation.specs.Windows.{in_window}
 use Rattle.generation.proofs.Rowing.{part_more}
 use Rattle.generation.proofs.Spanning.{stands_low, one_more}
-use Rattle.generation.proofs.Stepping.{there, behind}
+use Rattle.generation.proofs.Stepping.{behind}
 use Rattle.generation.proofs.window.Window.push.Goals as goal
 
 -- the module may stand behind the last
 module _ (w v : Window) (x : Module) (last : v.last ≡ w.last) (stands : may_stand w.last.brackets (symbol_of x) ≡ true) where
   may : may_stand v.last.brackets (symbol_of x) ≡ true
   may = ap (λ (d : Depth). may_stand d.brackets (symbol_of x)) last ∙ stands
-
-pub unwrap-self-requires : goal.unwrap-self-requires
-unwrap-self-requires c =
-    let v = c.make_room.new.self in
-    there v.last.brackets (symbol_of c.args.symbol) (may c.args.self.now v c.args.symbol c.make_room.ensures.last c.requires.stands) c.after.result c.after.ensures
 
 pub invariant_of-self : goal.invariant_of-self
 invariant_of-self c =

@@ -1,7 +1,7 @@
 use Rattle.std.proofs.Common.{arith}
 use Rattle.std.proofs.Output.{has_written_of_eq}
 use Rattle.word.proofs.Sound.{low, at_most_3, a_exact, b_exact, c_exact}
-use Rattle.word.proofs.Shown.{shown_0, shown_1, shown_2, shown_3}
+use Rattle.word.proofs.Shown.{shown_1, shown_2, shown_3}
 use Rattle.word.proofs.module.text.ModuleDisplay.fmt.Goals as goal
 
 pub returns-in-1-clause-writes : goal.returns-in-1-clause-writes
