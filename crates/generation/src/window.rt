@@ -11,6 +11,7 @@ pub mod fill;
 /// Up to 65 modules of the word below, and how many brackets are open before the first and behind the last.
 #[derive(Clone, Copy)]
 pub struct Window {
+    // an array in a plain struct, as a rule of the project has it, and taken from its front, which no row does
     row: [Module; 65],
     start: usize,
     len: usize,

@@ -14,10 +14,7 @@ use std::io::{BufRead, BufReader, BufWriter, Write};
 fn answer(book: &mut OpenBook, line: &[u8]) -> u8
     ensures { Loads line.now (open_book book.old) result (open_book book.new) }
 {
-    match book.load(line) {
-        Ok(()) => 0,
-        Err(refusal) => refusal.number(),
-    }
+    book.load(line).err().map_or(0, |refusal| refusal.number())
 }
 
 // Writes a line behind its answer.

@@ -12,6 +12,7 @@ use word::numbers::number;
 fn digits(text: &[u8]) -> Option<i32>
     ensures { result ≡ option_map pos (number text.now) }
 {
+    // of 7 digits, so it fits; no `From` makes a `u32` an `i32`
     number(text).map(|n| n as i32)
 }
 

@@ -1,68 +1,14 @@
 // A sheet that writes segments down.
-ghost use Rattle.std.specs.Prelude.{◌≡◌};
-ghost use Rattle.turtle.specs.Stances.{stroke_of};
-ghost use Rattle.sheet.specs.Pages.{room, page_content, Writes};
-ghost use Rattle.sheet.specs.Recording.{Recording};
-ghost use Rattle.sheet.specs.Sheets.{blank, Puts};
-ghost use Rattle.sheet.specs.Space.{stays_few, room_few};
+ghost use Rattle.std.specs.Prelude.{◌*◌, ◌≤◌, length};
 
-use super::record::{BYTES, write_record};
-use super::sheet::{MOST, NoSpace, Sheet};
 use super::tally::Tally;
-use turtle::segment::Segment;
+
+mod writing;
 
 /// A buffer with the records of the segments put so far, from its start on, each of 8 bytes, and their tally.
 #[derive(Drop)]
 pub struct Page<'a> {
     buffer: &'a mut [u8],
     tally: Tally,
-}
-
-impl<'a> Page<'a> {
-    /// A page with no record yet. It holds the buffer as it was lent.
-    pub fn new(buffer: &'a mut [u8]) -> Page<'a>
-        ensures blank { page_content result ≡ blank (room buffer.old) }
-        ensures bytes { result.buffer.now ≡ buffer.old }
-        ensures lender { result.buffer.ghost_name ≡ buffer.entry.ghost_name }
-        ensures laws { Recording }
-    {
-        Page {
-            buffer,
-            tally: Tally::new(),
-        }
-    }
-
-    /// What was counted so far.
-    pub fn tally(&self) -> Tally
-        ensures { result ≡ self.now.tally }
-    {
-        self.tally
-    }
-}
-
-impl<'a> Sheet for Page<'a> {
-    ghost means = { page_content };
-
-    ghost few = { λ p. stays_few (room p.buffer.now) p.tally.count (room_few p.buffer.now) p.tally.few };
-
-    // Beside what any sheet promises: every byte of the buffer, and that it is still the one that was lent.
-    fn put(&mut self, segment: Segment) -> Result<(), NoSpace>
-        ensures puts { Puts (page_content self.old) (stroke_of segment) result (page_content self.new) }
-        ensures bytes { Writes self.old.buffer.now self.old.tally.count (stroke_of segment) result self.new.buffer.now }
-        ensures lender { self.new.buffer.ghost_name ≡ self.old.buffer.ghost_name }
-    {
-        if self.space() == 0 {
-            return Err(NoSpace);
-        }
-        // By `as`, here and below, since `usize` is not `From<u32>`; the bound of the other way is the `min` before it.
-        let at = BYTES * self.tally.count() as usize;
-        write_record(self.buffer, at, segment);
-        self.tally.add(segment);
-        Ok(())
-    }
-
-    fn space(&self) -> u32 {
-        let records = (self.buffer.len() / BYTES).min(MOST as usize) as u32;
-        records.saturating_sub(self.tally.count())
-    }
+    ghost room: { 8 * tally.count ≤ length buffer.now },
 }

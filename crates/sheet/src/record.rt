@@ -14,6 +14,7 @@ fn complement(number: i32) -> u16
     requires { in_bounds number ≡ true }
     ensures { result ≡ twos 16 number }
 {
+    // within ±30,000, so it fits; no `From` narrows
     (number as i16).cast_unsigned()
 }
 

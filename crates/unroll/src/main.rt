@@ -11,7 +11,7 @@ use std::io;
 use std::io::{BufWriter, Read, Write};
 
 fn main(rt: HostRuntime) -> io::Result<()> {
-    // one byte more than a job may have is enough to refuse it
+    // one byte more than a job may have is enough to refuse it; no `From` makes a `usize` a `u64`
     let mut bytes = Vec::new(rt.alloc());
     rt.stdin().take(LONGEST as u64 + 1).read_to_end(&mut bytes)?;
     let mut out = BufWriter::new(rt.alloc(), rt.stdout())?;

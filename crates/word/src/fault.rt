@@ -7,6 +7,7 @@ use std::fmt;
 /// counted from 1.
 #[derive(Clone, Copy, PartialEq, Eq, Debug)]
 pub struct Fault {
+    // a number, since each layer has causes of its own, and passes on faults whose causes it does not know
     pub cause: u8,
     pub generation: u8,
     pub place: u32,

@@ -9,6 +9,7 @@ pub mod text;
 #[derive(Clone, Copy, PartialEq, Eq, Debug)]
 pub struct Module {
     pub letter: u8,
+    // three single numbers and a count, not a row: a module is a plain record by a rule of the project
     pub count: u8,
     pub a: i32,
     pub b: i32,

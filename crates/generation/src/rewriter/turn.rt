@@ -40,6 +40,7 @@ impl Rewriter {
     fn add(&self, modules: Modules) -> Result<Modules, Fault>
         ensures { (e : ℕ) → spans self.now.window.first.brackets (symbols_in modules) e ≡ true → Answers self.now.produced self.now.window.first.brackets e (added self.now.generation self.now.produced self.now.place (symbols_in modules)) result }
     {
+        // at most 24, so it fits; no `From` narrows
         if self.produced + modules.len() as u32 > MOST {
             return Err(self.found(Cause::TooLong as u8));
         }

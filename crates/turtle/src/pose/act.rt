@@ -75,6 +75,7 @@ impl Pose {
         Segment {
             start: self.place,
             heading: self.heading(),
+            // 1 to 4,095, so it fits; no `From` narrows
             length: length as u16,
         }
     }

@@ -43,6 +43,7 @@ impl Module {
         if !may_have(letter, parameters.len()) || !all_in_range(parameters) {
             return None;
         }
+        // at most 3, and no `From` makes a length a `u8`
         let count = parameters.len() as u8;
         match *parameters {
             [] => Some(Module {

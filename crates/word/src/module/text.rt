@@ -17,7 +17,7 @@ impl fmt::Display for Module {
             b,
             c,
         } = *self;
-        let letter = letter as char;
+        let letter = char::from(letter);
         match count {
             0 => write!(f, "{letter}"),
             1 => write!(f, "{letter}({a})"),
