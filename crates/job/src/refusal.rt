@@ -23,6 +23,7 @@ impl Refusal {
     pub fn line(self) -> usize
         ensures { result ≡ refusal_line self }
     {
+        // a place in the job, not a kind: no discriminant says it beside the number
         match self {
             Refusal::NoJob => 1,
         }

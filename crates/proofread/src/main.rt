@@ -10,7 +10,7 @@ use std::alloc::Global;
 use std::io;
 use std::io::{BufRead, BufReader, BufWriter, Write};
 
-// The number of a book's answer to a line, 0 where it takes it.
+// The number of a book's answer to a line, 0 where it takes it: a number, since that is what is printed and what `Loads` speaks of.
 fn answer(book: &mut OpenBook, line: &[u8]) -> u8
     ensures { Loads line.now (open_book book.old) result (open_book book.new) }
 {

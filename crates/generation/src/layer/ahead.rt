@@ -63,6 +63,7 @@ impl<S: Source + Drop> Generation<S> {
         ensures looks { Looks (found self.old.inner.generation self.old.inner.place 30) (scan (closed_book self.old.inner.book).ignored 64 0 (drop 1 (flow self.old.inner.window (S.Source.means self.old.below)).modules)) (flow self.old.inner.window (S.Source.means self.old.below)).ending result }
     {
         let mut depth = 0;
+        // by position, since what stands at one may have to be read from below first
         for at in 1..65 {
             let Some(symbol) = self.stands_at(at)? else {
                 return Ok(None);
