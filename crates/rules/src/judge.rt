@@ -6,7 +6,7 @@ ghost use Rattle.rules.specs.Refusals.{answer_number};
 ghost use Rattle.rules.specs.Wrong.{some_over, some_twice, some_missing, wrong};
 
 use super::draft::Draft;
-use super::given::Given;
+use super::given::given_names;
 use super::nesting::nests;
 use super::refusal::Refusal;
 use expr::code::Code;
@@ -71,16 +71,16 @@ impl Draft {
         if printed < 1 || printed > LAST {
             return Err(Refusal::PrintedNumber);
         }
-        let code = self.codes.filled();
+        let code = self.codes.as_slice();
         if has_large(code) {
             return Err(Refusal::NumberTooLarge);
         }
-        let given = Given::of(&self.head);
-        let names = given.names();
+        let given = given_names(&self.head);
+        let names = given.as_slice();
         if repeats(names) || misses(names, code) {
             return Err(Refusal::Names);
         }
-        let pieces = self.pieces.filled();
+        let pieces = self.pieces.as_slice();
         if !nests(pieces) {
             return Err(Refusal::Nesting);
         }
