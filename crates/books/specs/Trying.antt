@@ -1,6 +1,7 @@
 -- A rule tried by its head. Internal.
 use Rattle.std.specs.Prelude.{◌≡◌, Bool, true, false, ◌&&◌, List, [], ◌++◌, pos, is_some, Some, None, Ok, Err, Option, Result}
 use Rattle.std.specs.Option.{option_map}
+use Rattle.rows.specs.declared.row.Row.{Row}
 use Rattle.word.specs.declared.module.Module.{Module}
 use Rattle.word.specs.Symbols.{Symbol}
 use Rattle.word.specs.Records.{symbol_of}
@@ -13,7 +14,6 @@ use Rattle.rules.specs.declared.piece.Piece.{Piece}
 use Rattle.rules.specs.declared.head.Head.{Head}
 use Rattle.book.specs.Rules.{Rule, agrees, beside, given, given_beside}
 use Rattle.book.specs.Records.{form_of}
-use Rattle.books.specs.declared.modules.Modules.{Modules}
 use Rattle.books.specs.declared.growth.Growth.{Growth}
 use Rattle.book.specs.Winners.{says, decides}
 use Rattle.books.specs.Outcomes.{Outcome, itself, grown, fault, by_verdict}
@@ -40,7 +40,7 @@ Grows g p cs (Ok m) = (arguments g (latest p.count (decoded [] cs)) ≡ made (sy
 Grows g p cs (Err e) = arguments g (latest p.count (decoded [] cs)) ≡ spoilt (cause_number e)
 
 -- what the pieces of a successor grow to
-abbrev pub Grown : Outcome → Result Modules Cause → Type 0
+abbrev pub Grown : Outcome → Result (Row Module 24) Cause → Type 0
 Grown o (Ok ms) = grown (symbols_in ms) ≡ o
 Grown o (Err e) = fault (cause_number e) ≡ o
 
