@@ -12,13 +12,10 @@ use job::lines::Lines;
 pub fn fill_book(text: &[u8]) -> Result<ClosedBook, JobRefusal>
     ensures { Fills empty (numbered 3 (lines_of text.now)) result }
 {
-    let mut lines = Lines::of_book(text);
     let mut book = OpenBook::new();
-    while let Some(line) = lines.next_line() {
-        match book.load(line.text) {
-            Ok(()) => {}
-            Err(why) => return Err(JobRefusal::Line(why, line.number)),
-        }
+    for line in Lines::of_book(text) {
+        book.load(line.text)
+            .map_err(|why| JobRefusal::Line(why, line.number))?;
     }
     Ok(book.close())
 }
