@@ -1,5 +1,5 @@
 -- The names of up to three forms, one form after the other.
-use Rattle.std.proofs.Common.{◌≡◌, ℕ, ◌≤◌, List, [], ◌∷◌, ◌++◌, length, take, Some, None, Option, ap, ◌∙◌, append_assoc, append-nil, arith, length-append, length-take}
+use Rattle.std.proofs.Common.{◌≡◌, ℕ, ◌≤◌, List, [], ◌++◌, length, take, Some, None, Option, ap, ◌∙◌, append_assoc, append-nil, arith, length-append}
 use Rattle.std.proofs.lemmas.List.{take_all}
 use Rattle.std.specs.Option.{option_map}
 use Rattle.rows.specs.declared.row.Row.{Row}
@@ -10,7 +10,7 @@ use Rattle.rules.specs.Places.{names_of}
 use Rattle.book.specs.Records.{form_of}
 
 pub few_of_form : (f : Form) → length (form_of f).names ≤ 3
-few_of_form f = omega (arith, length-take f.count (f.a ∷ f.b ∷ f.c ∷ []))
+few_of_form f = within f.names
 
 pub few_of_side : (o : Option Form) → length (names_of (option_map form_of o)) ≤ 3
 few_of_side None = omega arith

@@ -14,7 +14,7 @@ use rows::row::Row;
 fn add(given: &mut Row<u8, 9>, form: Form)
     ensures { held given.new ≡ take 9 (held given.old ++ (form_of form).names) }
 {
-    given.extend_from_slice(&[form.a, form.b, form.c][..usize::from(form.count)]);
+    given.extend_from_slice(form.names.as_slice());
 }
 
 // The names of a side more, which may have no form.
