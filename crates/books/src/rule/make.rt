@@ -16,10 +16,7 @@ impl Rule {
     pub(crate) fn blank() -> Rule {
         let predecessor = Form {
             letter: b'A',
-            count: 0,
-            a: 0,
-            b: 0,
-            c: 0,
+            names: Row::new(0),
         };
         let head = Head {
             printed: 0,
