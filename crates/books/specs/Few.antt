@@ -6,8 +6,11 @@ use Rattle.word.specs.declared.module.Module.{Module}
 use Rattle.word.specs.Symbols.{Symbol}
 use Rattle.word.specs.Records.{symbol_of}
 
-abbrev pub modules_in : Row Module 24 → List Module
+abbrev pub Modules : Type 0
+Modules = Row Module 24
+
+abbrev pub modules_in : Modules → List Module
 modules_in m = held m
 
-abbrev pub symbols_in : Row Module 24 → List Symbol
+abbrev pub symbols_in : Modules → List Symbol
 symbols_in m = map symbol_of (modules_in m)

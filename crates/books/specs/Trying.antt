@@ -1,7 +1,6 @@
 -- A rule tried by its head. Internal.
 use Rattle.std.specs.Prelude.{◌≡◌, Bool, true, false, ◌&&◌, List, [], ◌++◌, pos, is_some, Some, None, Ok, Err, Option, Result}
 use Rattle.std.specs.Option.{option_map}
-use Rattle.rows.specs.declared.row.Row.{Row}
 use Rattle.word.specs.declared.module.Module.{Module}
 use Rattle.word.specs.Symbols.{Symbol}
 use Rattle.word.specs.Records.{symbol_of}
@@ -17,7 +16,7 @@ use Rattle.book.specs.Records.{form_of}
 use Rattle.books.specs.declared.growth.Growth.{Growth}
 use Rattle.book.specs.Winners.{says, decides}
 use Rattle.books.specs.Outcomes.{Outcome, itself, grown, fault, by_verdict}
-use Rattle.books.specs.Few.{symbols_in}
+use Rattle.books.specs.Few.{Modules, symbols_in}
 
 abbrev pub head_fits : Option Symbol → Symbol → Option Symbol → Head → Bool
 head_fits l s r h = agrees (form_of h.predecessor) s && (beside (option_map form_of h.before) l && beside (option_map form_of h.behind) r)
@@ -40,7 +39,7 @@ Grows g p cs (Ok m) = (arguments g (latest p.count (decoded [] cs)) ≡ made (sy
 Grows g p cs (Err e) = arguments g (latest p.count (decoded [] cs)) ≡ spoilt (cause_number e)
 
 -- what the pieces of a successor grow to
-abbrev pub Grown : Outcome → Result (Row Module 24) Cause → Type 0
+abbrev pub Grown : Outcome → Result Modules Cause → Type 0
 Grown o (Ok ms) = grown (symbols_in ms) ≡ o
 Grown o (Err e) = fault (cause_number e) ≡ o
 

@@ -10,10 +10,9 @@ use Rattle.word.specs.declared.module.Module.{Module}
 use Rattle.word.specs.Symbols.{Symbol, is_open, is_close, is_bracket}
 use Rattle.word.specs.Words.{after}
 use Rattle.word.specs.Records.{symbol_of}
-use Rattle.books.specs.declared.modules.Modules.{Modules}
 use Rattle.books.specs.Outcomes.{Outcome, itself, grown, fault}
 use Rattle.books.specs.Nesting.{balanced, deepest}
-use Rattle.books.specs.Few.{modules_in, symbols_in}
+use Rattle.books.specs.Few.{Modules, modules_in, symbols_in}
 use Rattle.generation.specs.Generations.{found, adds, stops, added, worked}
 use Rattle.generation.specs.Stream.{shown}
 use Rattle.generation.specs.Spans.{spans}
