@@ -3,4 +3,3 @@ pub mod Loading
 pub mod Winning
 pub mod Unique
 pub mod Recovered
-pub mod Giving

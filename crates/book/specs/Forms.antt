@@ -1,12 +1,13 @@
--- The record of a form: three single names, of which the first `count` are its own.
-use Rattle.std.specs.Prelude.{ℕ, Bool, cond, ◌&&◌, ◌==◌, nat_le, nat_lt}
+-- What a form is made of.
+use Rattle.std.specs.Prelude.{ℕ, Bool, ◌&&◌, List, length, nat_le}
+use Rattle.std.specs.List.{list_all}
 use Rattle.word.specs.Symbols.{is_letter}
 use Rattle.expr.specs.Records.{is_name}
+use Rattle.book.specs.Rules.{Form}
 
--- a name that counts is one of a–z, and one that does not is 0
-abbrev pub fits : Bool → ℕ → Bool
-fits counts x = cond counts (is_name x) (x == 0)
+-- a letter has at most 3 names, each one of a–z
+abbrev pub sound : ℕ → List ℕ → Bool
+sound letter names = is_letter letter && (nat_le (length names) 3 && list_all is_name names)
 
--- so each form has one record
-abbrev pub sound : ℕ → ℕ → ℕ → ℕ → ℕ → Bool
-sound letter count a b c = (is_letter letter && nat_le count 3) && (fits (nat_lt 0 count) a && (fits (nat_lt 1 count) b && fits (nat_lt 2 count) c))
+abbrev pub form_with : ℕ → List ℕ → Form
+form_with letter names = record { letter = letter; names = names }

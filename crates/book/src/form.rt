@@ -1,17 +1,17 @@
 // A form of a rule: a letter, and names for its parameters.
 ghost use Rattle.std.specs.Prelude.{◌≡◌, true};
+ghost use Rattle.rows.specs.Rows.{held};
 ghost use Rattle.book.specs.Forms.{sound};
+
+use rows::row::Row;
 
 pub mod fit;
 pub mod make;
 
-/// A letter with `count` names, the first of `a`, `b` and `c`. What does not count is 0.
+/// A letter with up to three names.
 #[derive(Clone, Copy, PartialEq, Eq, Debug)]
 pub struct Form {
     pub letter: u8,
-    pub count: u8,
-    pub a: u8,
-    pub b: u8,
-    pub c: u8,
-    ghost ok: { sound letter count a b c ≡ true },
+    pub names: Row<u8, 3>,
+    ghost ok: { sound letter (held names) ≡ true },
 }

@@ -4,6 +4,7 @@ use borrow.Author.Tests.{lt-leb}
 use Rattle.std.proofs.lemmas.List.Folds.{length-prefix_len}
 use Rattle.std.proofs.lemmas.List.{length-drop, take_all, take-append-le, drop-append-le, drop_at}
 use Rattle.std.proofs.lemmas.Bool.{and_parts, and_from}
+use Rattle.rows.specs.Rows.{held}
 use Rattle.expr.specs.declared.code.Code.{Code}
 use Rattle.rules.specs.declared.draft.Draft.{Draft}
 use Rattle.book.specs.Rules.{Rule}
@@ -36,7 +37,7 @@ same_rules cs ds [] h = refl
 same_rules cs ds (r ∷ rs) h =
     let p = and_parts (leb (r.start + r.size) (length cs)) (within (length cs) rs) h in
     let e = same_part cs ds r.start r.size (leb-true (r.start + r.size) (length cs) p.0) in
-    λ i. rule_from r.head r.guard (take r.count r.pieces) (e i) ∷ same_rules cs ds rs p.1 i
+    λ i. rule_from r.head r.guard (held r.pieces) (e i) ∷ same_rules cs ds rs p.1 i
 
 -- a draft whose code stands behind that of the rules
 pub new_rule : (cs : List Code) (d : Draft) (start : ℕ) (r : StoredRule) → start ≡ length cs → Made d start r → rule_in (cs ++ code_in d.codes) r ≡ rule_of d

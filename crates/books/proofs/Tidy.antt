@@ -4,6 +4,7 @@ use Rattle.std.proofs.lemmas.List.{length_push}
 use Rattle.std.proofs.lemmas.Bool.{and_parts, and_from}
 use Rattle.word.specs.Symbols.{Symbol, is_close, is_bracket, is_letter, all_in_range, valid, may_have}
 use Rattle.word.specs.Words.{all_valid}
+use Rattle.rows.specs.Rows.{held}
 use Rattle.expr.specs.declared.code.Code.{Code}
 use Rattle.expr.specs.Values.{Expr, number, Env, Value, is, wrong, Verdict, passes, fails, faults, value, Arguments, made, spoilt, with_first as and_first, arguments}
 use Rattle.expr.specs.Codes.{top, below, decoded, latest}
@@ -99,7 +100,7 @@ Tidy u = (nests 0 u.successor ≡ true) × Sound u.successor
 
 stored_tidy : (cs : List Code) (r : StoredRule) → Tidy (rule_in cs r)
 stored_tidy cs r =
-    let ps = take r.count r.pieces in
+    let ps = held r.pieces in
     let own = drop r.guard (take r.size (drop r.start cs)) in
     (nests_bare ps own 0 ∙ r.nested, stored_sound ps own)
 

@@ -1,11 +1,12 @@
 -- What the records of a book mean.
 use Rattle.std.specs.Prelude.{ℕ, Bool, false, List, map, take, drop, slice_index_or}
+use Rattle.rows.specs.declared.row.Row.{Row}
+use Rattle.rows.specs.Rows.{held}
 use Rattle.expr.specs.declared.code.Code.{Code}
 use Rattle.book.specs.Rules.{Rule}
 use Rattle.rules.specs.Records.{rule_from}
 use Rattle.books.specs.declared.code_places.CodePlaces.{CodePlaces}
 use Rattle.books.specs.declared.rule.Rule.{Rule as StoredRule}
-use Rattle.books.specs.declared.rule_list.RuleList.{RuleList}
 use Rattle.books.specs.declared.ignored.Ignored.{Ignored}
 
 -- the code places that are filled
@@ -14,10 +15,10 @@ code_held p = take p.used p.row
 
 -- a rule, where its book has the code cs
 abbrev pub rule_in : List Code → StoredRule → Rule
-rule_in cs r = rule_from r.head r.guard (take r.count r.pieces) (take r.size (drop r.start cs))
+rule_in cs r = rule_from r.head r.guard (held r.pieces) (take r.size (drop r.start cs))
 
-abbrev pub listed : RuleList → List StoredRule
-listed l = take l.len l.row
+abbrev pub listed : Row StoredRule 48 → List StoredRule
+listed l = held l
 
 abbrev pub rules_in : List Code → List StoredRule → List Rule
 rules_in cs rs = map (rule_in cs) rs

@@ -13,11 +13,10 @@ use Rattle.rules.specs.declared.piece.Piece.{Piece}
 use Rattle.rules.specs.declared.head.Head.{Head}
 use Rattle.book.specs.Rules.{Rule, agrees, beside, given, given_beside}
 use Rattle.book.specs.Records.{form_of}
-use Rattle.books.specs.declared.modules.Modules.{Modules}
 use Rattle.books.specs.declared.growth.Growth.{Growth}
 use Rattle.book.specs.Winners.{says, decides}
 use Rattle.books.specs.Outcomes.{Outcome, itself, grown, fault, by_verdict}
-use Rattle.books.specs.Few.{symbols_in}
+use Rattle.books.specs.Few.{Modules, symbols_in}
 
 abbrev pub head_fits : Option Symbol → Symbol → Option Symbol → Head → Bool
 head_fits l s r h = agrees (form_of h.predecessor) s && (beside (option_map form_of h.before) l && beside (option_map form_of h.behind) r)

@@ -5,7 +5,8 @@ use expr::code::Code;
 
 pub mod fill;
 
-/// 1,024 code places, of which the first `used` are filled.
+/// 1,024 code places, of which the first `used` are filled. An array in a plain struct, and no row: so large a one is filled where
+/// it stands.
 #[derive(Clone, Copy)]
 pub struct CodePlaces {
     row: [Code; 1024],

@@ -1,15 +1,18 @@
 // A few modules.
-ghost use Rattle.std.specs.Prelude.{◌≡◌, ◌≤◌, length};
+ghost use Rattle.std.specs.Prelude.{◌≡◌, [], ◌∷◌};
+ghost use Rattle.books.specs.Few.{modules_in};
 
+use rows::row::Row;
 use word::module::Module;
 
-pub mod fill;
-
 /// Up to 24 modules.
-#[derive(Clone, Copy)]
-pub struct Modules {
-    row: [Module; 24],
-    len: usize,
-    ghost wide: { length row ≡ 24 },
-    ghost short: { len ≤ 24 },
+pub type Modules = Row<Module, 24>;
+
+/// One module alone.
+pub fn one(symbol: Module) -> Modules
+    ensures { modules_in result ≡ symbol ∷ [] }
+{
+    let mut modules = Modules::new(Module::BLANK);
+    modules.push(symbol);
+    modules
 }

@@ -1,5 +1,6 @@
 -- Code worked out on values one place at a time. Internal.
-use Rattle.std.specs.Prelude.{ℕ, zero, suc, cond, List, [], ◌∷◌, map, length, ℤ, pos, ◌+ℤ◌, ◌-ℤ◌, ◌*ℤ◌, Ok, Err, Result, nat_lt, slice_index_or}
+use Rattle.std.specs.Prelude.{cond, List, ◌∷◌, map, length, ℤ, pos, ◌+ℤ◌, ◌-ℤ◌, ◌*ℤ◌, Ok, Err, Result, nat_lt, reverse}
+use Rattle.rows.specs.Rows.{held as filled}
 use Rattle.expr.specs.declared.code.Code.{Code}
 use Rattle.expr.specs.declared.code.Code.TheVariants.{Blank, Number, Name, Negate, Add, Subtract, Multiply, Divide, Compare}
 use Rattle.expr.specs.declared.computed.Cause.{Cause}
@@ -8,14 +9,9 @@ use Rattle.expr.specs.Values.{Value, is, Env, ranged, divided, both, negated, ju
 use Rattle.expr.specs.Codes.{top, below}
 use Rattle.expr.specs.Records.{value_of}
 
--- the first n of a list, the last first
-abbrev pub backward : {A : Type 0} → A → ℕ → List A → List A
-backward z zero xs = []
-backward z (suc n) xs = slice_index_or xs n z ∷ backward z n xs
-
 -- the values on a stack, the latest first
 abbrev pub held : Stack → List Value
-held s = map value_of (backward (Ok (pos 0)) s.len s.values)
+held s = map value_of (reverse (filled s.values))
 
 -- a stack takes 200 values
 abbrev pub pushed : Value → List Value → List Value

@@ -6,7 +6,7 @@ use Rattle.book.specs.Books.{Book}
 use Rattle.books.specs.Loading.{Loads}
 use Rattle.books.specs.Kinds.{closed_book}
 use Rattle.filling.specs.declared.refusal.JobRefusal.{JobRefusal}
-use Rattle.filling.specs.declared.refusal.JobRefusal.TheVariants.{NoJob, Line}
+use Rattle.filling.specs.declared.refusal.JobRefusal.TheVariants.{Job, Line}
 
 -- the book b takes all of some numbered lines, one after the other, and is b' then
 abbrev pub TakesAll : Book → List (ℕ × List ℕ) → Book → Type 0
@@ -21,5 +21,5 @@ StopsAt b (l ∷ ls) k n = ((l.0 ≡ n) × ((k ≢ 0) × Loads l.1 b k b)) ⊎ (
 -- what some numbered lines make of the book b: a closed book, or the refusal of a line
 abbrev pub Fills : Book → List (ℕ × List ℕ) → Result ClosedBook JobRefusal → Type 0
 Fills b ls (Ok c) = TakesAll b ls (closed_book c)
-Fills b ls (Err NoJob) = ⊥
+Fills b ls (Err (Job why)) = ⊥
 Fills b ls (Err (Line why n)) = StopsAt b ls (refusal_number why) n

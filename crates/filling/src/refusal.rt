@@ -1,5 +1,6 @@
 // Why a job is refused.
 ghost use Rattle.std.specs.Prelude.{◌≡◌, ◌++◌, Some, codes, decimal};
+ghost use Rattle.filling.specs.declared.refusal.JobRefusal.TheVariants.{Job};
 ghost use Rattle.filling.specs.Refusals.{job_refusal_number, job_refusal_line};
 
 use rules::refusal::Refusal;
@@ -8,10 +9,18 @@ use std::fmt;
 /// Why a job is refused.
 #[derive(Clone, Copy, PartialEq, Eq, Debug)]
 pub enum JobRefusal {
-    /// The bytes are no job: too many, without LF, or with another first line than one digit 0 to 8.
-    NoJob,
+    /// The bytes are no job.
+    Job(job::refusal::Refusal),
     /// The book does not take the line of this number, counted from 1 in the job.
     Line(Refusal, usize),
+}
+
+impl From<job::refusal::Refusal> for JobRefusal {
+    ghost from_gives = { λ why refusal. refusal ≡ Job why };
+
+    fn from(why: job::refusal::Refusal) -> JobRefusal {
+        JobRefusal::Job(why)
+    }
 }
 
 impl JobRefusal {
@@ -20,7 +29,7 @@ impl JobRefusal {
         ensures { result ≡ job_refusal_number self }
     {
         match self {
-            JobRefusal::NoJob => 58,
+            JobRefusal::Job(why) => why.number(),
             JobRefusal::Line(why, _) => why.number(),
         }
     }
@@ -30,7 +39,7 @@ impl JobRefusal {
         ensures { result ≡ job_refusal_line self }
     {
         match self {
-            JobRefusal::NoJob => 1,
+            JobRefusal::Job(why) => why.line(),
             JobRefusal::Line(_, line) => line,
         }
     }

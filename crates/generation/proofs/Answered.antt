@@ -1,7 +1,7 @@
 -- An answer to a part that is another part too.
 use Rattle.std.proofs.Common.{◌≡◌, ℕ, Ok, Err, Result, ◌∙◌}
 use Rattle.word.specs.declared.fault.Fault.{Fault}
-use Rattle.books.specs.declared.modules.Modules.{Modules}
+use Rattle.books.specs.Few.{Modules}
 use Rattle.generation.specs.Generations.{Part}
 use Rattle.generation.specs.Rewriting.{Answers}
 

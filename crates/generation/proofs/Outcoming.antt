@@ -7,10 +7,9 @@ use Rattle.std.proofs.lemmas.Bool.Decides.{nat_tests}
 use Rattle.word.specs.Symbols.{Symbol, is_open, is_close, is_bracket}
 use Rattle.word.specs.Words.{after}
 use Rattle.word.specs.Records.{symbol_of}
-use Rattle.books.specs.declared.modules.Modules.{Modules}
 use Rattle.books.specs.Outcomes.{Outcome, itself, grown}
 use Rattle.books.specs.Nesting.{balanced, deepest}
-use Rattle.books.specs.Few.{modules_in, symbols_in}
+use Rattle.books.specs.Few.{Modules, modules_in, symbols_in}
 use Rattle.generation.specs.Generations.{found, adds, stops, added, worked}
 use Rattle.generation.specs.Spans.{spans}
 use Rattle.generation.proofs.Agreement.{after_plain}

@@ -7,9 +7,8 @@ use Rattle.word.specs.Symbols.{Symbol, is_bracket}
 use Rattle.word.specs.Words.{broken, Told, Meaning, after, in_bounds}
 use Rattle.word.specs.Records.{symbol_of}
 use Rattle.books.specs.declared.closed_book.ClosedBook.{ClosedBook}
-use Rattle.books.specs.declared.modules.Modules.{Modules}
 use Rattle.books.specs.Outcomes.{becomes}
-use Rattle.books.specs.Few.{modules_in, symbols_in}
+use Rattle.books.specs.Few.{Modules, modules_in, symbols_in}
 use Rattle.books.specs.Kinds.{closed_book}
 use Rattle.generation.specs.declared.rewriter.Rewriter.{Rewriter}
 use Rattle.generation.specs.Generations.{next, Part, adds, stops, added, worked}

@@ -1,8 +1,7 @@
 -- What each step of reading the head of a rule keeps, and what its refusals show.
-use Rattle.std.proofs.Common.{◌≡◌, ℕ, zero, suc, ◌+◌, ◌-◌, ◌<◌, ◌≤◌, true, false, cond, ◌&&◌, ltb, leb, List, [], ◌∷◌, ◌++◌, map, length, take, Some, None, Ok, Err, Result, sym, refl, ap, ◌∙◌, append_assoc, arith, lit≤, length-take-le}
+use Rattle.std.proofs.Common.{◌≡◌, ℕ, zero, suc, ◌+◌, ◌-◌, ◌<◌, ◌≤◌, true, false, cond, List, [], ◌∷◌, ◌++◌, map, length, Some, None, Ok, Err, Result, sym, refl, ap, ◌∙◌, append_assoc, arith, length-append, lit≤}
 use Rattle.std.specs.Str.{all_ascii_digits}
-use Rattle.std.proofs.lemmas.Bool.{cond-false, and_parts, leb-true}
-use Rattle.word.specs.Symbols.{is_letter}
+use Rattle.std.proofs.lemmas.Bool.{cond-false}
 use Rattle.word.specs.Text as text
 use Rattle.tokens.specs.declared.token.Sign.{Sign}
 use Rattle.tokens.specs.declared.token.Sign.TheVariants.{Opens, Closes, Comma, Less, More, Colon, Ignores}
@@ -12,7 +11,7 @@ use Rattle.tokens.specs.Tokens.{Lexeme, number, name, sign, sign_of, tokens}
 use Rattle.tokens.specs.Readers.{means, Formed, first_sign, rest}
 use Rattle.book.specs.declared.form.Form.{Form as StoredForm}
 use Rattle.rules.specs.declared.refusal.Refusal.{Refusal}
-use Rattle.book.specs.Forms.{fits as fits-name}
+use Rattle.rows.proofs.Held.{within as within_row}
 use Rattle.book.specs.Records.{form_of}
 use Rattle.book.specs.Grammar.{glyph, within, spells_form}
 use Rattle.lines.specs.Fits.{is, starts_glyph, Which, first, middle, last, begins, numbered as numbered-place, ignores, form_due, formed, framed, name_due, name_read, lost, on, named_on, fits}
@@ -26,13 +25,11 @@ use Rattle.lines.proofs.Steps.{numbered, unnumbered}
 abbrev pub word : ℕ → List Lexeme
 word c = name c ∷ []
 
-pub count_few : (f : StoredForm) → f.count ≤ 3
-count_few f =
-    let rest = fits-name (ltb 0 f.count) f.a && (fits-name (ltb 1 f.count) f.b && fits-name (ltb 2 f.count) f.c) in
-    leb-true f.count 3 (and_parts (is_letter f.letter) (leb f.count 3) (and_parts (is_letter f.letter && leb f.count 3) rest f.ok).0).1
+abbrev pub count : StoredForm → ℕ
+count f = length (form_of f).names
 
-pub names_few : (f : StoredForm) → length (form_of f).names ≡ f.count
-names_few f = length-take-le f.count (f.a ∷ f.b ∷ f.c ∷ []) (count_few f)
+pub count_few : (f : StoredForm) → count f ≤ 3
+count_few f = within_row f.names
 
 -- from the tokens ts and the form f, more names were read, each behind a comma, which left the tokens us and the form g
 pub record Naming (f g : StoredForm) (ts us : List Lexeme) : Type 0 where
@@ -40,7 +37,7 @@ pub record Naming (f g : StoredForm) (ts us : List Lexeme) : Type 0 where
   pub letter_is : g.letter ≡ f.letter
   pub names_are : (form_of g).names ≡ (form_of f).names ++ more
   pub spelt : ts ≡ commas word more ++ us
-  pub onward : (w : Which) → fits (name_read w (3 - f.count)) ts ≡ fits (name_read w (3 - g.count)) us
+  pub onward : (w : Which) → fits (name_read w (3 - count f)) ts ≡ fits (name_read w (3 - count g)) us
 
 -- a comma asks for a name, where one more may stand
 pub comma_on : (n : ℕ) (us : List Lexeme) → n < 3 → us ≡ sign Comma ∷ rest us → (w : Which) → fits (name_read w (3 - n)) us ≡ fits (name_due w (3 - (n + 1))) (rest us)
@@ -48,13 +45,17 @@ comma_on n us h head w =
     let m : 3 - n ≡ suc (3 - (n + 1)) = omega arith in
     ap (λ k. fits (name_read w k) us) m ∙ ap (fits (name_read w (suc (3 - (n + 1))))) head
 
-pub one_name : (f g h : StoredForm) (b : ℕ) (ts us vs : List Lexeme) → Naming f g ts us → g.count < 3 → us ≡ sign Comma ∷ rest us → rest us ≡ name b ∷ vs → h.letter ≡ g.letter → h.count ≡ g.count + 1 → (form_of h).names ≡ (form_of g).names ++ (b ∷ []) → Naming f h ts vs
-one_name f g h b ts us vs t few head next same count more = record {
+-- one name more
+one_longer : (xs ys : List ℕ) (b : ℕ) → xs ≡ ys ++ (b ∷ []) → length xs ≡ length ys + 1
+one_longer xs ys b e = ap length e ∙ length-append ys (b ∷ [])
+
+pub one_name : (f g h : StoredForm) (b : ℕ) (ts us vs : List Lexeme) → Naming f g ts us → count g < 3 → us ≡ sign Comma ∷ rest us → rest us ≡ name b ∷ vs → h.letter ≡ g.letter → (form_of h).names ≡ (form_of g).names ++ (b ∷ []) → Naming f h ts vs
+one_name f g h b ts us vs t few head next same more = record {
   more = t.more ++ (b ∷ []);
   letter_is = same ∙ t.letter_is;
   names_are = more ∙ ap (λ (l : List ℕ). l ++ (b ∷ [])) t.names_are ∙ append_assoc (form_of f).names t.more (b ∷ []);
   spelt = t.spelt ∙ ap (λ (l : List Lexeme). commas word t.more ++ l) (head ∙ ap (λ (l : List Lexeme). sign Comma ∷ l) next) ∙ sym (commas_more word t.more b vs);
-  onward = λ w. t.onward w ∙ comma_on g.count us few head w ∙ ap (fits (name_due w (3 - (g.count + 1)))) next ∙ ap (λ k. fits (name_read w (3 - k)) vs) (sym count);
+  onward = λ w. t.onward w ∙ comma_on (count g) us few head w ∙ ap (fits (name_due w (3 - (count g + 1)))) next ∙ ap (λ k. fits (name_read w (3 - k)) vs) (sym (one_longer (form_of h).names (form_of g).names b more));
 }
 
 closed_on : (w : Which) (n : ℕ) (us : List Lexeme) → fits (name_read w n) (sign Closes ∷ us) ≡ fits (framed w) us
@@ -66,17 +67,16 @@ named_lost w zero s h k = cond-false (is Closes s) (framed w) lost h
 named_lost w (suc n) s h k = cond-false (is Closes s) (framed w) (cond (is Comma s) (name_due w n) lost) h ∙ cond-false (is Comma s) (name_due w n) lost k
 
 -- names from the first one on
-module _ (bare f : StoredForm) (b : ℕ) (ts us : List Lexeme) (zeroth : bare.count ≡ 0) (head : ts ≡ name b ∷ us) (same : f.letter ≡ bare.letter) (one : f.count ≡ bare.count + 1) (names : (form_of f).names ≡ (form_of bare).names ++ (b ∷ [])) where
-  starts : (w : Which) → fits (name_due w 2) ts ≡ fits (name_read w (3 - f.count)) us
-  starts w = let e : 3 - f.count ≡ 2 = omega arith in ap (fits (name_due w 2)) head ∙ ap (λ k. fits (name_read w k) us) (sym e)
-
+module _ (bare f : StoredForm) (b : ℕ) (ts us : List Lexeme) (zeroth : (form_of bare).names ≡ []) (head : ts ≡ name b ∷ us) (same : f.letter ≡ bare.letter) (names : (form_of f).names ≡ (form_of bare).names ++ (b ∷ [])) where
   first_name : (form_of f).names ≡ b ∷ []
-  first_name = names ∙ ap (λ (n : ℕ). take n (bare.a ∷ bare.b ∷ bare.c ∷ []) ++ (b ∷ [])) zeroth
+  first_name = names ∙ ap (λ (l : List ℕ). l ++ (b ∷ [])) zeroth
+
+  starts : (w : Which) → fits (name_due w 2) ts ≡ fits (name_read w (3 - count f)) us
+  starts w = let e : 3 - count f ≡ 2 = omega (arith, ap length first_name) in ap (fits (name_due w 2)) head ∙ ap (λ k. fits (name_read w k) us) (sym e)
 
   pub took_names : (g : StoredForm) (vs xs : List Lexeme) → Naming f g us vs → vs ≡ sign Closes ∷ xs → TookNames bare.letter ts xs g
   took_names g vs xs t closes =
       let all : (form_of g).names ≡ b ∷ t.more = t.names_are ∙ ap (λ (l : List ℕ). l ++ t.more) first_name in
-      let few = names_few g in
       let most = count_few g in
       record {
         letter_is = t.letter_is ∙ same;
@@ -84,20 +84,20 @@ module _ (bare f : StoredForm) (b : ℕ) (ts us : List Lexeme) (zeroth : bare.co
         spelt =
             ap (λ (l : List Lexeme). sign Opens ∷ l) (head ∙ ap (λ (l : List Lexeme). name b ∷ l) (t.spelt ∙ ap (λ (l : List Lexeme). commas word t.more ++ l) closes ∙ commas_closed word t.more xs))
             ∙ ap (λ (l : List ℕ). within (map word l) ++ xs) (sym all);
-        onward = λ w. starts w ∙ t.onward w ∙ ap (fits (name_read w (3 - g.count))) closes ∙ closed_on w (3 - g.count) xs;
+        onward = λ w. starts w ∙ t.onward w ∙ ap (fits (name_read w (3 - count g))) closes ∙ closed_on w (3 - count g) xs;
       }
 
-  pub lost_fourth : (g : StoredForm) (vs : List Lexeme) → Naming f g us vs → g.count ≡ 3 → vs ≡ sign Comma ∷ rest vs → (w : Which) → fits (name_due w 2) ts ≡ false
+  pub lost_fourth : (g : StoredForm) (vs : List Lexeme) → Naming f g us vs → count g ≡ 3 → vs ≡ sign Comma ∷ rest vs → (w : Which) → fits (name_due w 2) ts ≡ false
   lost_fourth g vs t full comma w =
-      let e : 3 - g.count ≡ 0 = omega arith in
+      let e : 3 - count g ≡ 0 = omega arith in
       starts w ∙ t.onward w ∙ ap (λ k. fits (name_read w k) vs) e ∙ ap (fits (name_read w 0)) comma ∙ never (rest vs)
 
-  pub lost_name : (g : StoredForm) (vs : List Lexeme) → Naming f g us vs → g.count < 3 → vs ≡ sign Comma ∷ rest vs → ((w : Which) (n : ℕ) → fits (name_due w n) (rest vs) ≡ false) → (w : Which) → fits (name_due w 2) ts ≡ false
-  lost_name g vs t few comma l w = starts w ∙ t.onward w ∙ comma_on g.count vs few comma w ∙ l w (3 - (g.count + 1))
+  pub lost_name : (g : StoredForm) (vs : List Lexeme) → Naming f g us vs → count g < 3 → vs ≡ sign Comma ∷ rest vs → ((w : Which) (n : ℕ) → fits (name_due w n) (rest vs) ≡ false) → (w : Which) → fits (name_due w 2) ts ≡ false
+  lost_name g vs t few comma l w = starts w ∙ t.onward w ∙ comma_on (count g) vs few comma w ∙ l w (3 - (count g + 1))
 
   pub lost_close : (g : StoredForm) (vs : List Lexeme) → Naming f g us vs → is Comma (first_sign vs) ≡ false → is Closes (first_sign vs) ≡ false → (w : Which) → fits (name_due w 2) ts ≡ false
   lost_close g vs t h k w =
-      starts w ∙ t.onward w ∙ name_read_on w (3 - g.count) vs ∙ ap (λ p. fits p (rest vs)) (named_lost w (3 - g.count) (first_sign vs) k h) ∙ never (rest vs)
+      starts w ∙ t.onward w ∙ name_read_on w (3 - count g) vs ∙ ap (λ p. fits p (rest vs)) (named_lost w (3 - count g) (first_sign vs) k h) ∙ never (rest vs)
 
 -- a form
 pub no_form : (ts : List Lexeme) → starts_glyph ts ≡ false → (w : Which) → fits (form_due w) ts ≡ false
@@ -114,11 +114,11 @@ read_named (Ok f) b ts us vs l head t = record {
 read_named (Err e) b ts us vs l head h =
     (h.0, λ w. ap (fits (form_due w)) l.spelt ∙ at_form l.glyph_is w us ∙ ap (fits (formed w)) head ∙ h.1 w)
 
-pub read_bare : (f : StoredForm) (ts us : List Lexeme) → TookLetter ts us f.letter → f.count ≡ 0 → is Opens (first_sign us) ≡ false → TookForm ts us f
+pub read_bare : (f : StoredForm) (ts us : List Lexeme) → TookLetter ts us f.letter → (form_of f).names ≡ [] → is Opens (first_sign us) ≡ false → TookForm ts us f
 read_bare f ts us l zeroth n = record {
   tree = record { glyph = l.glyph_is; names = []; few = lit≤ tt };
   spelt = l.spelt;
-  meant = λ i. record { letter = l.meant i; names = take (sym zeroth i) (f.a ∷ f.b ∷ f.c ∷ []) };
+  meant = λ i. record { letter = l.meant i; names = sym zeroth i };
   onward = λ w.
       ap (fits (form_due w)) l.spelt
       ∙ at_form l.glyph_is w us

@@ -9,12 +9,11 @@ use Rattle.rules.specs.declared.draft.Draft.{Draft}
 use Rattle.book.specs.declared.form.Form.{Form}
 use Rattle.rules.specs.declared.head.Head.{Head}
 use Rattle.rules.specs.declared.piece.Piece.{Piece}
-use Rattle.rules.specs.declared.pieces.Pieces.{Pieces}
+use Rattle.rows.specs.declared.row.Row.{Row}
 use Rattle.rules.specs.declared.refusal.Refusal.{Refusal}
 use Rattle.rules.specs.declared.refusal.Refusal.TheVariants.{NotByGrammar}
 use Rattle.rules.specs.Records.{code_in, pieces_in}
 use Rattle.rules.specs.Drafts.{rule_of}
-use Rattle.lines.specs.declared.letters.Letters.{Letters}
 use Rattle.lines.specs.declared.parser.Parser.{Parser}
 use Rattle.book.specs.Grammar.{Part, RuleTree, ruling, spells_line}
 use Rattle.book.specs.Meanings.{rule_sense}
@@ -80,10 +79,10 @@ ReadsArguments r p q = Read (λ n. TookArguments (left p) (left q) (laid p) (lai
 abbrev pub ReadsPiece : Result Piece Refusal → Parser → Parser → Type 0
 ReadsPiece r p q = Read (λ x. TookPiece (left p) (left q) (laid p) (laid q) x) (fits pieces (left p) ≡ false) r
 
-abbrev pub ReadsSuccessor : Result Pieces Refusal → Parser → Parser → Type 0
+abbrev pub ReadsSuccessor : Result (Row Piece 200) Refusal → Parser → Parser → Type 0
 ReadsSuccessor r p q = Read (λ x. TookPieces (left p) [] (laid p) (laid q) (pieces_in x)) (fits pieces (left p) ≡ false) r
 
-abbrev pub ReadsLetters : Result Letters Refusal → Reader → Type 0
+abbrev pub ReadsLetters : Result (Row ℕ 200) Refusal → Reader → Type 0
 ReadsLetters r p = Read (λ l. TookLetters (unread p) [] (letters_in l)) (fits (ignores false) (unread p) ≡ false) r
 
 abbrev pub ReadsRule : Result Draft Refusal → Parser → Type 0

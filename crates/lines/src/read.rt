@@ -11,6 +11,7 @@ use super::line::Line;
 use super::parser::Parser;
 use super::parser::forms::head;
 use super::parser::single::{ended, letter};
+use expr::code::Code;
 use rules::codes::Codes;
 use rules::draft::Draft;
 use rules::refusal::Refusal;
@@ -25,7 +26,7 @@ fn letters(reader: &mut Reader) -> Result<Letters, Refusal>
     requires { length (unread reader.old) ≤ 200 }
     ensures { ReadsLetters result reader.old }
 {
-    let mut letters = Letters::new();
+    let mut letters = Letters::new(0);
     let first = letter(reader)?;
     letters.push(first);
     while !ended(reader) {
@@ -64,7 +65,7 @@ pub fn read(line: &[u8]) -> Result<Line, Refusal>
     }
     let mut parser = Parser {
         reader: Reader::new(line),
-        codes: Codes::new(),
+        codes: Codes::new(Code::Blank),
     };
     match parser.reader.sign() {
         Sign::Ignores => {

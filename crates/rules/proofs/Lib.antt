@@ -3,6 +3,5 @@ pub mod Counting
 pub mod Depths
 pub mod Judging
 pub mod Picking
-pub mod Rows
 pub mod Searching
 pub mod Whole

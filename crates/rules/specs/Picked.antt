@@ -1,9 +1,8 @@
--- The numbers and the names of code, and names as they are collected. Internal.
-use Rattle.std.specs.Prelude.{ℕ, List, [], ◌∷◌, ◌++◌, take}
+-- The numbers and the names of code, and the names of a head. Internal.
+use Rattle.std.specs.Prelude.{ℕ, List, [], ◌∷◌, ◌++◌}
 use Rattle.std.specs.Option.{option_map}
 use Rattle.expr.specs.declared.code.Code.{Code}
 use Rattle.expr.specs.declared.code.Code.TheVariants.{Blank, Number, Name, Negate, Add, Subtract, Multiply, Divide, Compare}
-use Rattle.rules.specs.declared.given.Given.{Given}
 use Rattle.rules.specs.declared.head.Head.{Head}
 use Rattle.rules.specs.Places.{names_of}
 use Rattle.book.specs.Records.{form_of}
@@ -29,9 +28,6 @@ numbers_in cs = picked (λ n. n ∷ []) (λ x. []) cs
 
 abbrev pub names_in : List Code → List ℕ
 names_in cs = picked (λ n. []) (λ x. x ∷ []) cs
-
-abbrev pub held : Given → List ℕ
-held g = take g.len g.row
 
 -- the names that the forms of a head give
 abbrev pub head_names : Head → List ℕ

@@ -1,13 +1,13 @@
 -- What the records of the code mean.
 use Rattle.std.specs.Prelude.{ℕ, ◌+◌, cond, List, [], ◌∷◌, ◌++◌, length, take, drop, nat_lt}
 use Rattle.std.specs.Option.{option_map}
+use Rattle.rows.specs.declared.row.Row.{Row}
+use Rattle.rows.specs.Rows.{held}
 use Rattle.expr.specs.declared.code.Code.{Code}
 use Rattle.expr.specs.Codes.{decoded, comparisons, latest}
 use Rattle.book.specs.Records.{form_of}
 use Rattle.rules.specs.declared.head.Head.{Head}
 use Rattle.rules.specs.declared.piece.Piece.{Piece as StoredPiece}
-use Rattle.rules.specs.declared.codes.Codes.{Codes}
-use Rattle.rules.specs.declared.pieces.Pieces.{Pieces}
 use Rattle.book.specs.Rules.{Piece, Rule}
 
 -- one more at the end of a row of at most 200
@@ -15,11 +15,11 @@ abbrev pub pushed : {A : Type 0} → A → List A → List A
 pushed x xs = cond (nat_lt (length xs) 200) (xs ++ (x ∷ [])) xs
 
 -- what is filled of a row
-abbrev pub code_in : Codes → List Code
-code_in c = take c.len c.row
+abbrev pub code_in : Row Code 200 → List Code
+code_in c = held c
 
-abbrev pub pieces_in : Pieces → List StoredPiece
-pieces_in p = take p.len p.row
+abbrev pub pieces_in : Row StoredPiece 200 → List StoredPiece
+pieces_in p = held p
 
 -- the places that some letters and brackets take up
 abbrev pub places_in : List StoredPiece → ℕ

@@ -12,3 +12,12 @@ pub struct Piece {
     ghost ok: { may_have letter count ≡ true },
     ghost few: { places ≤ 200 },
 }
+
+impl Piece {
+    /// `[`, to fill a place where no piece is.
+    pub const BLANK: Piece = Piece {
+        letter: b'[',
+        count: 0,
+        places: 0,
+    };
+}

@@ -6,25 +6,25 @@ ghost use Rattle.rules.specs.Refusals.{refusal_number};
 #[derive(Clone, Copy, PartialEq, Eq, Debug)]
 pub enum Refusal {
     /// Over 200 bytes.
-    TooLong,
+    TooLong = 1,
     /// Not by the grammar.
-    NotByGrammar,
+    NotByGrammar = 2,
     /// The printed number is not 1 to 999.
-    PrintedNumber,
+    PrintedNumber = 3,
     /// A number in a guard or an argument is over 1,000,000.
-    NumberTooLarge,
+    NumberTooLarge = 4,
     /// A name is given twice, or used and not given.
-    Names,
+    Names = 5,
     /// The brackets of the successor are not nested.
-    Nesting,
+    Nesting = 6,
     /// The successor has over 24 modules, brackets counted.
-    TooManyModules,
+    TooManyModules = 7,
     /// The book has a rule of this printed number.
-    NumberHeld,
+    NumberHeld = 11,
     /// The book has 48 rules.
-    TooManyRules,
+    TooManyRules = 12,
     /// The book would have over 1,024 code places.
-    TooMuchCode,
+    TooMuchCode = 13,
 }
 
 impl Refusal {
@@ -32,17 +32,6 @@ impl Refusal {
     pub fn number(self) -> u8
         ensures { result ≡ refusal_number self }
     {
-        match self {
-            Refusal::TooLong => 1,
-            Refusal::NotByGrammar => 2,
-            Refusal::PrintedNumber => 3,
-            Refusal::NumberTooLarge => 4,
-            Refusal::Names => 5,
-            Refusal::Nesting => 6,
-            Refusal::TooManyModules => 7,
-            Refusal::NumberHeld => 11,
-            Refusal::TooManyRules => 12,
-            Refusal::TooMuchCode => 13,
-        }
+        self as u8
     }
 }

@@ -1,41 +1,30 @@
 ghost use Rattle.std.specs.Prelude.{◌≡◌, false, MatchOption};
-ghost use Rattle.book.specs.Forms.{fits, sound};
-ghost use Rattle.book.specs.Records.{Holds};
+ghost use Rattle.std.specs.List.{list_all};
+ghost use Rattle.expr.specs.Records.{is_name};
+ghost use Rattle.book.specs.Forms.{sound, form_with};
+ghost use Rattle.book.specs.Records.{form_of};
 
 use super::Form;
+use rows::row::Row;
 use word::letters::is_letter;
 
-// Whether a byte may stand in a form's record, as a name or as one that does not count.
-fn fits(counts: bool, name: u8) -> bool
-    ensures { result ≡ fits counts name }
+// Whether all bytes are names.
+fn all_names(names: &[u8]) -> bool
+    ensures { result ≡ list_all is_name names.now }
 {
-    if counts {
-        b'a' <= name && name <= b'z'
-    } else {
-        name == 0
-    }
+    names.iter().all(u8::is_ascii_lowercase)
 }
 
 impl Form {
-    /// The form of these parts, if they are one: a letter with at most 3 names, where what does not count is 0.
-    pub fn new(letter: u8, count: u8, a: u8, b: u8, c: u8) -> Option<Form>
-        ensures { MatchOption result (sound letter count a b c ≡ false) (λ f. Holds f letter count a b c) }
+    /// The form of a letter and its names, if there is one: a letter with at most 3 names, each a–z.
+    pub fn new(letter: u8, names: &[u8]) -> Option<Form>
+        ensures { MatchOption result (sound letter names.now ≡ false) (λ f. form_of f ≡ form_with letter names.now) }
     {
-        if is_letter(letter)
-            && count <= 3
-            && fits(count > 0, a)
-            && fits(count > 1, b)
-            && fits(count > 2, c)
-        {
-            Some(Form {
-                letter,
-                count,
-                a,
-                b,
-                c,
-            })
-        } else {
-            None
+        if !is_letter(letter) || names.len() > 3 || !all_names(names) {
+            return None;
         }
+        let mut own = Row::new(0);
+        own.extend_from_slice(names);
+        Some(Form { letter, names: own })
     }
 }

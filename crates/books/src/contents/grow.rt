@@ -18,7 +18,7 @@ impl Contents {
         ensures { outcome_of result ≡ becomes (option_map symbol_of site.left) (symbol_of site.module) (option_map symbol_of site.right) (book_in self.now).rules }
     {
         // A loop, since a fault ends it by `?`: `find_map` over what `try_at` answers, turned inside out, is no plainer.
-        for rule in self.rules.filled() {
+        for rule in self.rules.as_slice() {
             if let Some(growth) = rule.try_at(&self.code, site)? {
                 return Ok(Some(growth));
             }
@@ -31,7 +31,7 @@ impl Contents {
         ensures { result ≡ looks_ahead (symbol_of symbol) (book_in self.now).rules }
     {
         self.rules
-            .filled()
+            .as_slice()
             .iter()
             .any(|rule| rule.looks_right(symbol))
     }

@@ -27,7 +27,7 @@ impl Contents {
     {
         Contents {
             code: CodePlaces::new(),
-            rules: RuleList::new(),
+            rules: RuleList::new(Rule::blank()),
             ignored: Ignored::new(),
         }
     }
@@ -45,7 +45,7 @@ impl Contents {
         ensures answer { answer_number result ≡ no_place (book_in self.old) (rule_of draft.now) }
         ensures after { MatchResult result (λ _. book_in self.new ≡ with_entry (rule (rule_of draft.now)) (book_in self.old)) (λ _. book_in self.new ≡ book_in self.old) }
     {
-        let rules = self.rules.filled();
+        let rules = self.rules.as_slice();
         if is_numbered(draft.head.printed, rules) {
             return Err(Refusal::NumberHeld);
         }
@@ -58,7 +58,7 @@ impl Contents {
             return Err(Refusal::TooMuchCode);
         }
         let rule = Rule::new(draft, start);
-        self.code.append(draft.codes.filled());
+        self.code.append(draft.codes.as_slice());
         self.rules.insert(at, rule);
         Ok(())
     }

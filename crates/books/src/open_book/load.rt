@@ -34,7 +34,7 @@ impl OpenBook {
         match said {
             Line::Rule(draft) => self.add(&draft),
             Line::Ignores(letters) => {
-                self.contents.ignore(letters.filled());
+                self.contents.ignore(letters.as_slice());
                 Ok(())
             }
         }

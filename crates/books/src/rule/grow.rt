@@ -6,6 +6,7 @@ ghost use Rattle.expr.specs.Values.{guard, arguments};
 ghost use Rattle.expr.specs.Codes.{comparisons, decoded, latest};
 ghost use Rattle.expr.specs.Records.{env_of, verdict_of, arguments_of, Spare};
 ghost use Rattle.rules.specs.Records.{pieces_from, places_in};
+ghost use Rattle.rows.specs.Rows.{held};
 ghost use Rattle.books.specs.Outcomes.{successor};
 ghost use Rattle.books.specs.Stored.{code_held, rule_in};
 ghost use Rattle.books.specs.Trying.{Grows, Grown, grown_of, Tried};
@@ -55,7 +56,7 @@ fn grow_pieces(pieces: &[Piece], code: &[Code], names: &Names) -> Result<Modules
     requires within { places_in pieces.now ≤ length code.now }
     ensures { Grown (successor (env_of names.now) (pieces_from pieces.now code.now)) result }
 {
-    let mut modules = Modules::new();
+    let mut modules = Modules::new(Module::BLANK);
     let mut rest = code;
     for piece in pieces {
         let (own, behind) = rest.split_at(usize::from(piece.places));
@@ -80,10 +81,9 @@ impl Rule {
     // What the successor grows to.
     pub(crate) fn grow(&self, code: &[Code], names: &Names) -> Result<Growth, Cause>
         requires { self.now.size ≤ length code.now }
-        ensures { grown_of result ≡ successor (env_of names.now) (pieces_from (take self.now.count self.now.pieces) (drop self.now.guard code.now)) }
+        ensures { grown_of result ≡ successor (env_of names.now) (pieces_from (held self.now.pieces) (drop self.now.guard code.now)) }
     {
-        let pieces = &self.pieces[0..self.count];
-        let modules = grow_pieces(pieces, &code[usize::from(self.guard)..], names)?;
+        let modules = grow_pieces(self.pieces.as_slice(), &code[usize::from(self.guard)..], names)?;
         Ok(Growth {
             modules,
             depth: self.depth,

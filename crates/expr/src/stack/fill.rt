@@ -6,14 +6,14 @@ ghost use Rattle.expr.specs.Machine.{held, pushed};
 
 use super::super::computed::Cause;
 use super::Stack;
+use rows::row::Row;
 
 impl Stack {
     pub fn new() -> Stack
         ensures { held result ≡ [] }
     {
         Stack {
-            values: [Ok(0); 200],
-            len: 0,
+            values: Row::new(Ok(0)),
         }
     }
 
@@ -21,10 +21,7 @@ impl Stack {
     pub fn push(&mut self, value: Result<i32, Cause>)
         ensures { held self.new ≡ pushed (value_of value) (held self.old) }
     {
-        if self.len < 200 {
-            self.values[self.len] = value;
-            self.len += 1;
-        }
+        self.values.push(value);
     }
 
     // The latest value, which is gone then; 0 where there is none.
@@ -32,10 +29,6 @@ impl Stack {
         ensures value { value_of result ≡ top (is (pos 0)) (held self.old) }
         ensures rest { held self.new ≡ below (held self.old) }
     {
-        if self.len == 0 {
-            return Ok(0);
-        }
-        self.len -= 1;
-        self.values[self.len]
+        self.values.pop().unwrap_or(Ok(0))
     }
 }

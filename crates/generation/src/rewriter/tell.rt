@@ -29,7 +29,7 @@ impl Rewriter {
             lefts: Lefts::new(),
             produced: 0,
             place: 0,
-            growth: Modules::new(),
+            growth: Modules::new(Module::BLANK),
             told: 0,
             opened: depth,
             fault: None,
@@ -43,7 +43,7 @@ impl Rewriter {
         if self.told >= self.growth.len() {
             return None;
         }
-        let symbol = self.growth.filled()[self.told];
+        let symbol = self.growth.as_slice()[self.told];
         self.told += 1;
         self.opened = self.opened.after(symbol).unwrap();
         Some(symbol)

@@ -12,7 +12,7 @@ ghost use Rattle.generation.specs.Rewriting.{Answers, with_right, part_of, Sound
 
 use super::super::cause::Cause;
 use super::Rewriter;
-use books::modules::Modules;
+use books::modules::{Modules, one};
 use books::site::Site;
 use word::fault::Fault;
 use word::letters::is_bracket;
@@ -59,7 +59,7 @@ impl Rewriter {
             right,
         };
         match self.book.becomes(site) {
-            Ok(None) => self.add(Modules::one(symbol)),
+            Ok(None) => self.add(one(symbol)),
             Ok(Some(growth)) if growth.depth > DEEPEST - depth.brackets => {
                 Err(self.found(Cause::TooDeep as u8))
             }
@@ -79,7 +79,7 @@ impl Rewriter {
         ensures { Answers self.now.produced self.now.window.first.brackets (after self.now.window.first.brackets (symbol_of symbol)) (part_of self.now (symbol_of symbol) right) result }
     {
         if is_bracket(symbol.letter) {
-            return self.add(Modules::one(symbol));
+            return self.add(one(symbol));
         }
         self.work(symbol, right?)
     }

@@ -1,5 +1,5 @@
 // The head of a rule: its printed number and its forms.
-ghost use Rattle.std.specs.Prelude.{◌≡◌, ◌+◌, ◌<◌, true, false, [], ◌∷◌, ◌++◌};
+ghost use Rattle.std.specs.Prelude.{◌≡◌, ◌<◌, true, false, [], ◌∷◌, ◌++◌, length};
 ghost use Rattle.tokens.specs.declared.token.Sign.TheVariants.{Ignores};
 ghost use Rattle.tokens.specs.Tokens.{is_name};
 ghost use Rattle.tokens.specs.Readers.{unread, first_sign};
@@ -10,6 +10,7 @@ ghost use Rattle.lines.specs.Parsing.{ReadsNames, ReadsForm, ReadsSides, ReadsBe
 use super::MOST;
 use super::single::{close, letter, name};
 use book::form::Form;
+use rows::row::Row;
 use rules::head::Head;
 use rules::refusal::Refusal;
 use tokens::reader::Reader;
@@ -18,49 +19,28 @@ use word::numbers::number;
 
 // A form with one name more.
 fn named(form: Form, name: u8) -> Form
-    requires few { form.count < 3 }
+    requires few { length (form_of form).names < 3 }
     requires name { is_name name ≡ true }
     ensures letter { result.letter ≡ form.letter }
-    ensures count { result.count ≡ form.count + 1 }
     ensures names { (form_of result).names ≡ (form_of form).names ++ (name ∷ []) }
 {
-    let letter = form.letter;
-    if form.count == 0 {
-        return Form {
-            letter,
-            count: 1,
-            a: name,
-            b: 0,
-            c: 0,
-        };
-    }
-    if form.count == 1 {
-        return Form {
-            letter,
-            count: 2,
-            a: form.a,
-            b: name,
-            c: 0,
-        };
-    }
+    let mut names = form.names;
+    names.push(name);
     Form {
-        letter,
-        count: 3,
-        a: form.a,
-        b: form.b,
-        c: name,
+        letter: form.letter,
+        names,
     }
 }
 
 // One to three names behind an opening parenthesis, and the closing one.
 fn names(reader: &mut Reader, bare: Form) -> Result<Form, Refusal>
-    requires { bare.count ≡ 0 }
+    requires { (form_of bare).names ≡ [] }
     ensures { ReadsNames bare.letter result reader.old reader.new }
 {
     let first = name(reader)?;
     let mut form = named(bare, first);
     while let Sign::Comma = reader.sign() {
-        if form.count == MOST {
+        if form.names.len() == usize::from(MOST) {
             return Err(Refusal::NotByGrammar);
         }
         reader.skip();
@@ -78,10 +58,7 @@ fn form(reader: &mut Reader) -> Result<Form, Refusal>
     let letter = letter(reader)?;
     let bare = Form {
         letter,
-        count: 0,
-        a: 0,
-        b: 0,
-        c: 0,
+        names: Row::new(0),
     };
     match reader.sign() {
         Sign::Opens => {

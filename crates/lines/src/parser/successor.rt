@@ -85,7 +85,7 @@ impl<'a> Parser<'a> {
         requires { Roomy self.old }
         ensures { ReadsSuccessor result self.old self.new }
     {
-        let mut pieces = Pieces::new();
+        let mut pieces = Pieces::new(Piece::BLANK);
         while !ended(&self.reader) {
             let piece = self.piece()?;
             pieces.push(piece);

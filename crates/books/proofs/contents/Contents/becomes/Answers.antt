@@ -14,7 +14,7 @@ try_at-requires c =
     let s = c.args.self.now in
     let i = c.loop-rule.rule-index in
     let r = c.rule-item.result in
-    within_at (length (code_held s.code)) (listed s.rules) s.inside i r (drop (i + 1) (listed s.rules)) (item_in c.filled-rule-items.result.now (listed s.rules) c.filled-rule-items.ensures i r c.loop-rule-test.true c.rule-item.is)
+    within_at (length (code_held s.code)) (listed s.rules) s.inside i r (drop (i + 1) (listed s.rules)) (item_in c.as_slice-rule-items.result.now (listed s.rules) c.as_slice-rule-items.ensures i r c.loop-rule-test.true c.rule-item.is)
 
 pub returns-in_err-growth : goal.returns-in_err-growth
 returns-in_err-growth c =
@@ -26,7 +26,7 @@ returns-in_err-growth c =
     let l = option_map symbol_of c.args.site.left in
     let m = symbol_of c.args.site.module in
     let n = option_map symbol_of c.args.site.right in
-    let item = item_in c.filled-rule-items.result.now rs c.filled-rule-items.ensures i r c.loop-rule-test.true c.rule-item.is in
+    let item = item_in c.as_slice-rule-items.result.now rs c.as_slice-rule-items.ensures i r c.loop-rule-test.true c.rule-item.is in
     let p = err_from_is_err_and c.from_residual.result c.from_residual.ensures.1 in
     rw (p.1, p.2)
     (c.in_err-growth.ensures.1

@@ -19,4 +19,4 @@ returns-in-Ignores c =
     let read = c.in_ok-said.ensures in
     let b = open_book c.args.self.now in
     taken_line c.args.line.now b _ (ignores (letters_in c.in-Ignores.letters)) read.0
-    (subst (Says c.args.line.now) (ap entry_of c.in-Ignores.is) read.1) refl (c.ignore.ensures ∙ ap (λ (cs : List ℕ). with_entry (ignores cs) b) c.filled.ensures)
+    (subst (Says c.args.line.now) (ap entry_of c.in-Ignores.is) read.1) refl (c.ignore.ensures ∙ ap (λ (cs : List ℕ). with_entry (ignores cs) b) c.as_slice.ensures)

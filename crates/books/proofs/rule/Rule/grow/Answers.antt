@@ -1,5 +1,4 @@
-use Rattle.std.proofs.Common.{map, take, sym, ap, ◌∙◌}
-use native.Mathlib.Nat.{sub-zero}
+use Rattle.std.proofs.Common.{map, sym, ap, ◌∙◌}
 use Rattle.expr.specs.Records.{env_of}
 use Rattle.rules.specs.Records.{bare}
 use Rattle.rules.specs.Wrong.{nests, deepest}
@@ -11,8 +10,8 @@ pub invariant_of-result : goal.invariant_of-result
 invariant_of-result c =
     let r = c.args.self.now in
     let n = grown_nests (env_of c.args.names.now) _ _ (symbols_in c.in_ok-modules.modules) (sym c.in_ok-modules.ensures) in
-    let own = sub-zero r.count in
+    let own = c.as_slice.ensures in
     record {
-      nested = n.0 ∙ ap (λ k. nests 0 (map bare (take k r.pieces))) own ∙ r.nested;
-      deep = r.deep ∙ sym (n.1 ∙ ap (λ k. deepest 0 (map bare (take k r.pieces))) own);
+      nested = n.0 ∙ ap (λ ps. nests 0 (map bare ps)) own ∙ r.nested;
+      deep = r.deep ∙ sym (n.1 ∙ ap (λ ps. deepest 0 (map bare ps)) own);
     }

@@ -2,6 +2,7 @@ use Rattle.std.proofs.Common.{List, [], take, drop, Ok, sym, ap, ◌∙◌}
 use Rattle.std.proofs.lemmas.Result.{err_from_is_err_and}
 use Rattle.std.specs.Option.{option_map}
 use Rattle.word.specs.Records.{symbol_of}
+use Rattle.rows.specs.Rows.{held}
 use Rattle.expr.specs.declared.code.Code.{Code}
 use Rattle.expr.specs.Values.{guard}
 use Rattle.expr.specs.Codes.{comparisons}
@@ -36,7 +37,7 @@ returns-in_err-growth c =
     rw (p.1, p.2)
     (on_pass (option_map symbol_of c.args.site.left) (symbol_of c.args.site.module) (option_map symbol_of c.args.site.right) (rule_in (code_held c.args.book.now) r) g c.names-names.ensures (sym c.fits.ensures ∙ c.if-not-fits.false) _
     (ap (λ b. verdict_of (Ok b)) (sym c.if-not-branch.false) ∙ c.in_ok-says.ensures ∙ ap (λ (cs : List Code). guard g (comparisons [] (take r.guard cs))) c.part-code.ensures)
-    (c.in_err-growth.ensures ∙ ap (λ (cs : List Code). successor g (pieces_from (take r.count r.pieces) (drop r.guard cs))) c.part-code.ensures))
+    (c.in_err-growth.ensures ∙ ap (λ (cs : List Code). successor g (pieces_from (held r.pieces) (drop r.guard cs))) c.part-code.ensures))
 
 pub returns : goal.returns
 returns c =
@@ -44,4 +45,4 @@ returns c =
     let g = env_of c.names-names.result in
     on_pass (option_map symbol_of c.args.site.left) (symbol_of c.args.site.module) (option_map symbol_of c.args.site.right) (rule_in (code_held c.args.book.now) r) g c.names-names.ensures (sym c.fits.ensures ∙ c.if-not-fits.false) _
     (ap (λ b. verdict_of (Ok b)) (sym c.if-not-branch.false) ∙ c.in_ok-says.ensures ∙ ap (λ (cs : List Code). guard g (comparisons [] (take r.guard cs))) c.part-code.ensures)
-    (c.in_ok-growth.ensures ∙ ap (λ (cs : List Code). successor g (pieces_from (take r.count r.pieces) (drop r.guard cs))) c.part-code.ensures)
+    (c.in_ok-growth.ensures ∙ ap (λ (cs : List Code). successor g (pieces_from (held r.pieces) (drop r.guard cs))) c.part-code.ensures)

@@ -20,23 +20,23 @@ module _ (r : Rewriter) (fs : List Module) (same : fs ≡ modules_in r.growth) (
 pub unwrap-self-requires : goal.unwrap-self-requires
 unwrap-self-requires c =
     let r = c.args.self.now in
-    let x = c.index-filled-self.result in
-    let fs = c.filled.result.now in
-    let some : r.told < length fs = omega (arith, c.len.ensures, ap length c.filled.ensures) in
-    there r.opened.brackets (symbol_of x) (may r fs c.filled.ensures x some c.index-filled-self.is) c.after.result c.after.ensures
+    let x = c.index-as_slice-self.result in
+    let fs = c.as_slice.result.now in
+    let some : r.told < length fs = omega (arith, c.len.ensures, ap length c.as_slice.ensures) in
+    there r.opened.brackets (symbol_of x) (may r fs c.as_slice.ensures x some c.index-as_slice-self.is) c.after.result c.after.ensures
 
 pub invariant_of-self : goal.invariant_of-self
 invariant_of-self c =
     let r = c.args.self.now in
-    let x = c.index-filled-self.result in
-    let fs = c.filled.result.now in
-    let some : r.told < length fs = omega (arith, c.len.ensures, ap length c.filled.ensures) in
+    let x = c.index-as_slice-self.result in
+    let fs = c.as_slice.result.now in
+    let some : r.told < length fs = omega (arith, c.len.ensures, ap length c.as_slice.ensures) in
     record {
       few = r.few;
       inside = r.inside;
-      counted = rest_fewer r fs c.filled.ensures x some c.index-filled-self.is;
-      joined = ap (λ d. spans d (map symbol_of (rest r fs c.filled.ensures x some c.index-filled-self.is)) r.window.first.brackets)
-          (behind r.opened.brackets (symbol_of x) (may r fs c.filled.ensures x some c.index-filled-self.is) c.after.result c.after.ensures c.unwrap-self.result c.unwrap-self.ensures)
-          ∙ rest_spans r fs c.filled.ensures x some c.index-filled-self.is;
+      counted = rest_fewer r fs c.as_slice.ensures x some c.index-as_slice-self.is;
+      joined = ap (λ d. spans d (map symbol_of (rest r fs c.as_slice.ensures x some c.index-as_slice-self.is)) r.window.first.brackets)
+          (behind r.opened.brackets (symbol_of x) (may r fs c.as_slice.ensures x some c.index-as_slice-self.is) c.after.result c.after.ensures c.unwrap-self.result c.unwrap-self.ensures)
+          ∙ rest_spans r fs c.as_slice.ensures x some c.index-as_slice-self.is;
       bounds = r.bounds;
     }

@@ -23,4 +23,4 @@ returns-in-Opens c =
 
 pub returns-in_default : goal.returns-in_default
 returns-in_default c =
-    read_bare _ _ _ c.in_ok-letter.ensures refl (unlike Opens _ (omega arith) (λ e. c.in_default.not-Opens (c.sign.ensures ∙ e)))
+    read_bare _ _ _ c.in_ok-letter.ensures c.new.ensures (unlike Opens _ (omega arith) (λ e. c.in_default.not-Opens (c.sign.ensures ∙ e)))
