@@ -65,9 +65,6 @@ placed cs r (s ∷ rs) = ap (λ k. rules_in cs (take k (s ∷ rs) ++ (r ∷ drop
     go true ih = refl
     go false ih = ap (λ (l : List Rule). rule_in cs s ∷ l) ih
 
-pub spot_low : (h : Head) (rs : List StoredRule) → spot h rs ≤ length rs
-spot_low h rs = omega (arith, length-prefix_len (λ r. not (head_precedes h r.head)) rs, length-take (spot h rs) rs)
-
 pub same_number : (cs : List Code) (n : ℕ) (rs : List StoredRule) → numbered n rs ≡ holds_number n (rules_in cs rs)
 same_number cs n [] = refl
 same_number cs n (r ∷ rs) = ap (λ (b : Bool). eqb n r.head.printed || b) (same_number cs n rs)

@@ -5,8 +5,8 @@ use expr::code::Code;
 
 pub mod fill;
 
-/// 1,024 code places, of which the first `used` are filled. An array in a plain struct, and no row: so large a one is filled where
-/// it stands.
+/// 1,024 code places, of which the first `used` are filled.
+// A plain struct with an array of its own, and no row, by a rule of the project.
 #[derive(Clone, Copy)]
 pub struct CodePlaces {
     row: [Code; 1024],

@@ -5,8 +5,8 @@ use lib.Signed.{mag, quot_z}
 use Rattle.std.proofs.lemmas.Int.{to_z-of_z, ints}
 use Rattle.std.proofs.lemmas.Bool.{ne_eqb}
 
-wide : (x : ℤ) → SFits w32 x → to_z w64 (of_z w64 x) ≡ x
-wide x f = to_z-of_z w64 x (record { sfits = omega (arith, f.sfits) })
+wide : (x : ℤ) → SFits w32 x → to_z w64 (of_z w64 (to_z w32 (of_z w32 x))) ≡ x
+wide x f = ap (λ v. to_z w64 (of_z w64 v)) (to_z-of_z w32 x f) ∙ to_z-of_z w64 x (record { sfits = omega (arith, f.sfits) })
 
 sum_fits : (x y : ℤ) → SFits w32 x → SFits w32 y → SFits w64 (x +ℤ y)
 sum_fits x y f g = grind (arith, ints, f, g)
@@ -15,9 +15,7 @@ difference_fits : (x y : ℤ) → SFits w32 x → SFits w32 y → SFits w64 (x -
 difference_fits x y f g = grind (arith, ints, f, g)
 
 product_fits : (x y : ℤ) → SFits w32 x → SFits w32 y → SFits w64 (x *ℤ y)
-product_fits x y f g =
-    let back : (z : ℤ) → SFits w32 z → to_z w64 (of_z w64 (to_z w32 (of_z w32 z))) ≡ z = λ z h. ap (λ v. to_z w64 (of_z w64 v)) (to_z-of_z w32 z h) ∙ wide z h in
-    subst (SFits w64) (λ i. back x f i *ℤ back y g i) (signed_product w64 w32 w32 x y f g tt)
+product_fits x y f g = subst (SFits w64) (λ i. wide x f i *ℤ wide y g i) (signed_product w64 w32 w32 x y f g tt)
 
 mag_neg : (n : ℕ) → mag (neg_ℤ (pos n)) ≤ n
 mag_neg zero = omega arith
@@ -30,7 +28,7 @@ quotient_fits (negsuc a) (pos b) f g = record { sfits = omega (arith, f.sfits, d
 quotient_fits (negsuc a) (negsuc b) f g = record { sfits = omega (arith, f.sfits, div-le_self (suc a) (suc b)) }
 
 -- two numbers, and the code's copies of them
-module _ (x y v w : ℤ) (f : SFits w32 x) (g : SFits w32 y) (d : v ≡ x) (e : w ≡ y) where
+module _ (x y v w : ℤ) (f : SFits w32 x) (g : SFits w32 y) (d : v ≡ to_z w32 (of_z w32 x)) (e : w ≡ to_z w32 (of_z w32 y)) where
   exact : (o : ℤ → ℤ → ℤ) → SFits w64 (o x y) → to_z w64 (of_z w64 (o (to_z w64 (of_z w64 v)) (to_z w64 (of_z w64 w)))) ≡ o x y
   exact o h = (λ i. to_z w64 (of_z w64 (o ((ap (λ z. to_z w64 (of_z w64 z)) d ∙ wide x f) i) ((ap (λ z. to_z w64 (of_z w64 z)) e ∙ wide y g) i)))) ∙ to_z-of_z w64 (o x y) h
 
@@ -50,5 +48,5 @@ not_zero : (y : ℤ) → (of_z w64 y ≡ 0 → ⊥) → eqb (nat_abs y) 0 ≡ fa
 not_zero (pos n) h = ne_eqb n 0 h
 not_zero (negsuc n) h = ne_eqb (suc n) 0 (λ e. omega arith)
 
-pub nonzero : (y w : ℤ) → w ≡ y → (of_z w64 w ≡ 0 → ⊥) → eqb (nat_abs y) 0 ≡ false
-nonzero y w e h = not_zero y (subst (λ z. of_z w64 z ≡ 0 → ⊥) e h)
+pub nonzero : (y w : ℤ) → SFits w32 y → w ≡ to_z w32 (of_z w32 y) → (of_z w64 w ≡ 0 → ⊥) → eqb (nat_abs y) 0 ≡ false
+nonzero y w g e h = not_zero y (subst (λ z. of_z w64 z ≡ 0 → ⊥) (e ∙ to_z-of_z w32 y g) h)

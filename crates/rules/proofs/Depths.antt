@@ -1,6 +1,5 @@
 -- The brackets of a successor, one letter or bracket after the other.
-use Rattle.std.proofs.Common.{◌≡◌, ℕ, suc, pred, ◌+◌, ◌≤◌, min, max, Bool, false, cond, not, ◌&&◌, eqb, ◌⊎◌, List, [], ◌∷◌, map, length, drop, refl, ap, inl, inr, arith}
-use Rattle.std.proofs.lemmas.List.{length-map}
+use Rattle.std.proofs.Common.{◌≡◌, ℕ, suc, pred, ◌+◌, ◌≤◌, max, Bool, false, cond, not, ◌&&◌, eqb, ◌⊎◌, List, [], ◌∷◌, map, length, drop, refl, ap, inl, inr, arith}
 use Rattle.std.proofs.lemmas.Bool.{and_left, and_right, ne_eqb, cond_both}
 use Rattle.word.specs.Symbols.{is_open, is_close}
 use Rattle.expr.specs.declared.code.Code.{Code}
@@ -46,7 +45,3 @@ deep_enough d (p ∷ ps) = omega arith
 pub not_deeper : (d : ℕ) (ps : List Piece) → deepest d ps ≤ d + length ps
 not_deeper d [] = omega arith
 not_deeper d (p ∷ ps) = omega (arith, not_deeper (after d p) ps, after_few d p)
-
--- of at most 24 the depth is told exactly
-pub deepest_exact : (ps : List StoredPiece) (cs : List Code) → length ps ≤ 24 → min 255 (deepest 0 (map bare ps)) ≡ deepest 0 (pieces_from ps cs)
-deepest_exact ps cs h = omega (arith, not_deeper 0 (map bare ps), length-map ps bare, deepest_bare ps cs 0)

@@ -1,7 +1,7 @@
 -- What is picked from the code of a rule is what its expressions have.
 use Rattle.std.proofs.Common.{◌≡◌, ℕ, List, [], ◌∷◌, ◌++◌, sym, refl, ap, ◌∙◌, ap₂, append_assoc, append-nil}
 use Rattle.expr.specs.declared.code.Code.{Code}
-use Rattle.expr.specs.declared.code.Code.TheVariants.{Blank, Number, Name, Negate, Add, Subtract, Multiply, Divide, Compare}
+use Rattle.expr.specs.declared.code.Code.TheVariants.{Negate, Add, Subtract, Multiply, Divide, Compare}
 use Rattle.expr.specs.Values.{Expr, number, name, minus, plus, less, times, over, Comparison}
 use Rattle.expr.specs.Codes.{code_of, codes_of, comparisons_code}
 use Rattle.book.specs.Rules.{Piece, Rule}
@@ -10,18 +10,6 @@ use Rattle.rules.specs.Places.{leaves, compared_in, arguments_in, expressions, e
 use Rattle.rules.specs.Picked.{given_by, picked}
 
 module _ (f g : ℕ → List ℕ) where
-  -- a place gives nothing that is neither a number nor a name
-  pub quiet : (c : Code) → ((n : ℕ) → c ≡ Number n → f n ≡ []) → ((x : ℕ) → c ≡ Name x → g x ≡ []) → given_by f g c ≡ []
-  quiet Blank p q = refl
-  quiet (Number n) p q = p n refl
-  quiet (Name x) p q = q x refl
-  quiet Negate p q = refl
-  quiet Add p q = refl
-  quiet Subtract p q = refl
-  quiet Multiply p q = refl
-  quiet Divide p q = refl
-  quiet (Compare r) p q = refl
-
   on : (cs ds : List Code) → picked f g (cs ++ ds) ≡ picked f g cs ++ picked f g ds
   on [] ds = refl
   on (c ∷ cs) ds = ap (λ (xs : List ℕ). given_by f g c ++ xs) (on cs ds) ∙ sym (append_assoc (given_by f g c) (picked f g cs) (picked f g ds))

@@ -5,7 +5,8 @@ ghost use Rattle.rules.specs.Wrong.{after, nests, deepest};
 
 use super::piece::Piece;
 
-// How many brackets are open behind a letter or bracket, where `depth` are open before it.
+// How many brackets are open behind a letter or bracket, where `depth` are open before it. A number, and no `Depth` of at most 32:
+// a line may open up to 200, and is judged as a whole.
 fn after(depth: usize, piece: Piece) -> usize
     requires { depth < 2 ^ 64 - 1 }
     ensures { result ≡ after depth (bare piece) }

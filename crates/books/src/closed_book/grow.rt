@@ -15,6 +15,7 @@ use super::ClosedBook;
 use expr::computed::Cause;
 use word::module::Module;
 
+// An open and a closed book are two types by a rule of the project: what a closed one answers is handed on from its contents.
 impl ClosedBook {
     // The closed book of some contents.
     pub(crate) fn holding(contents: Contents) -> ClosedBook

@@ -1,6 +1,5 @@
 use Rattle.std.proofs.Common.{◌≡◌, Ok, ℤ, Result, ap, ◌∙◌, sym, eqb, nat_abs, w32, SFits, rules}
 use Rattle.std.proofs.lemmas.Bool.{cond-false}
-use Rattle.std.proofs.lemmas.Int.{to_z-of_z}
 use Rattle.expr.specs.declared.code.Code.{Code}
 use Rattle.expr.specs.declared.computed.Cause.{Cause}
 use Rattle.expr.specs.Values.{ranged, wrong}
@@ -20,7 +19,7 @@ returns-in-Add c =
     let f : SFits w32 x = search rules in
     let g : SFits w32 y = search rules in
     c.ranged.ensures
-    ∙ ap ranged (sum x y c.from-x.result c.from-y.result f g (c.from-x.ensures ∙ to_z-of_z w32 x f) (c.from-y.ensures ∙ to_z-of_z w32 y g))
+    ∙ ap ranged (sum x y _ _ f g c.from-x.ensures c.from-y.ensures)
     ∙ both_values _ _ _ _ x y c.in-Add.is c.in_ok-x.was c.in_ok-y.was
 
 pub returns-in-Subtract : goal.returns-in-Subtract
@@ -30,7 +29,7 @@ returns-in-Subtract c =
     let f : SFits w32 x = search rules in
     let g : SFits w32 y = search rules in
     c.ranged-in-Subtract.ensures
-    ∙ ap ranged (difference x y c.from-x.result c.from-y.result f g (c.from-x.ensures ∙ to_z-of_z w32 x f) (c.from-y.ensures ∙ to_z-of_z w32 y g))
+    ∙ ap ranged (difference x y _ _ f g c.from-x.ensures c.from-y.ensures)
     ∙ both_values _ _ _ _ x y c.in-Subtract.is c.in_ok-x.was c.in_ok-y.was
 
 pub returns-in-Multiply : goal.returns-in-Multiply
@@ -40,7 +39,7 @@ returns-in-Multiply c =
     let f : SFits w32 x = search rules in
     let g : SFits w32 y = search rules in
     c.ranged-in-Multiply.ensures
-    ∙ ap ranged (product x y c.from-x.result c.from-y.result f g (c.from-x.ensures ∙ to_z-of_z w32 x f) (c.from-y.ensures ∙ to_z-of_z w32 y g))
+    ∙ ap ranged (product x y _ _ f g c.from-x.ensures c.from-y.ensures)
     ∙ both_values _ _ _ _ x y c.in-Multiply.is c.in_ok-x.was c.in_ok-y.was
 
 pub returns-in-Divide-2 : goal.returns-in-Divide-2
@@ -49,8 +48,7 @@ returns-in-Divide-2 c =
     let y = c.in_ok-y.field-0 in
     let f : SFits w32 x = search rules in
     let g : SFits w32 y = search rules in
-    let b = c.from-y.ensures ∙ to_z-of_z w32 y g in
     c.ranged-in-Divide-2.ensures
-    ∙ ap ranged (quotient x y c.from-x.result c.from-y.result f g (c.from-x.ensures ∙ to_z-of_z w32 x f) b)
-    ∙ sym (cond-false (eqb (nat_abs y) 0) (wrong 31) _ (nonzero y c.from-y.result b c.if-y-eq0.false))
+    ∙ ap ranged (quotient x y _ _ f g c.from-x.ensures c.from-y.ensures)
+    ∙ sym (cond-false (eqb (nat_abs y) 0) (wrong 31) _ (nonzero y _ g c.from-y.ensures c.if-y-eq0.false))
     ∙ both_values _ _ _ _ x y c.in-Divide.is c.in_ok-x.was c.in_ok-y.was

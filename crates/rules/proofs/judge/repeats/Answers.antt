@@ -3,7 +3,7 @@ use Rattle.std.proofs.lemmas.List.{take_rest}
 use Rattle.word.specs.Symbols.{among}
 use Rattle.word.proofs.Among.{among_is}
 use Rattle.rules.specs.Wrong.{some_twice}
-use Rattle.rules.proofs.Searching.{searched, opened}
+use Rattle.rules.proofs.Searching.{opened}
 use Rattle.rules.proofs.judge.repeats.Goals as goal
 
 -- a name is looked for behind itself
@@ -23,6 +23,3 @@ loop-i-preserved c =
     let i = c.loop-i.i in
     told _ xs i (c.if-contains.ensures.value ∙ among_is (get_or xs i 0) _ ∙ ap (among (get_or xs i 0)) (take_rest xs (i + 1)))
     ∙ opened some_twice xs i c.loop-i.invariant 0 c.loop-i-test.true
-
-pub returns : goal.returns
-returns c = searched some_twice c.args.names.now c.loop-i.i c.loop-i.invariant c.loop-i-test.false

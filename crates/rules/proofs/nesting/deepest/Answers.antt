@@ -3,7 +3,7 @@ use Rattle.rules.specs.declared.piece.Piece.{Piece as StoredPiece}
 use Rattle.rules.specs.Records.{bare}
 use Rattle.rules.specs.Wrong.{after, deepest}
 use Rattle.rules.proofs.Depths.{after_few, deep_enough}
-use Rattle.rules.proofs.Searching.{searched, opened}
+use Rattle.rules.proofs.Searching.{opened}
 use Rattle.rules.proofs.nesting.deepest.Goals as goal
 
 pub loop-p-preserved : goal.loop-p-preserved
@@ -20,7 +20,3 @@ loop-p-preserved c =
     let enough = deep_enough (after d (bare p)) rest in
     let same = ap (λ k. deepest k rest) c.after-depth.ensures in
     (omega (arith, inv, enough, same), omega arith, omega (arith, after_few d (bare p)))
-
-pub returns : goal.returns
-returns c =
-    omega (arith, searched (λ l. max c.loop-p.most (deepest c.loop-p.depth (map bare l))) c.args.pieces.now c.loop-p.p-index c.loop-p.invariant.0 c.loop-p-test.false)
