@@ -1,6 +1,5 @@
 -- A rule has as many code places as its code is long.
-use Rattle.std.proofs.Common.{◌≡◌, suc, ◌+◌, List, [], ◌∷◌, ◌++◌, length, sym, refl, ◌∙◌, arith, length-append}
-use native.Mathlib.Nat.{ℕ_set}
+use Rattle.std.proofs.Common.{◌≡◌, suc, ◌+◌, List, [], ◌∷◌, ◌++◌, length, sym, refl, ap, ◌∙◌, arith, length-append}
 use Rattle.expr.specs.declared.code.Code.{Code}
 use Rattle.expr.specs.declared.code.Code.TheVariants.{Negate, Add, Subtract, Multiply, Divide, Compare}
 use Rattle.expr.specs.Values.{Expr, number, name, minus, plus, less, times, over, Comparison}
@@ -11,7 +10,6 @@ use Rattle.rules.specs.Layout.{successor_code, rule_code}
 use Rattle.rules.specs.Places.{places, compared_in, arguments_in, places_all, places_of}
 use Rattle.rules.specs.Records.{code_in}
 use Rattle.rules.specs.Drafts.{rule_of}
-use Rattle.rules.proofs.Whole.{whole_code}
 
 both : (a b : Expr) (c : Code) → length (code_of a) ≡ places a → length (code_of b) ≡ places b → length ((code_of a ++ code_of b) ++ (c ∷ [])) ≡ suc (places a + places b)
 both a b c ia ib = omega (arith, length-append (code_of a ++ code_of b) (c ∷ []), length-append (code_of a) (code_of b))
@@ -48,4 +46,4 @@ rule_places u =
     omega (arith, length-append (comparisons_code u.guarded) (successor_code u.successor), of_guard u.guarded, of_successor u.successor, places_on (compared_in u.guarded) (arguments_in u.successor))
 
 pub draft_places : (d : Draft) → length (code_in d.codes) ≡ places_of (rule_of d)
-draft_places d = sym (whole_code ℕ_set length d) ∙ rule_places (rule_of d)
+draft_places d = sym (ap length d.whole) ∙ rule_places (rule_of d)

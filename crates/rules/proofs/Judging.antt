@@ -1,6 +1,5 @@
 -- How the tests of a draft come to what is wrong with its rule.
 use Rattle.std.proofs.Common.{◌≡◌, ℕ, Bool, true, false, cond, not, ◌&&◌, ◌||◌, ltb, leb, List, [], ◌∷◌, map, length, drop, sym, refl, ap, ◌∙◌, arith}
-use mathlib.Core.Bool.{Bool-set}
 use Rattle.expr.specs.declared.code.Code.{Code}
 use Rattle.rules.specs.declared.draft.Draft.{Draft}
 use Rattle.rules.specs.declared.piece.Piece.{Piece as StoredPiece}
@@ -12,7 +11,6 @@ use Rattle.rules.specs.Picked.{numbers_in, names_in, head_names}
 use Rattle.rules.specs.Wrong.{some_over, some_twice, some_missing, nests, wrong}
 use Rattle.rules.proofs.Depths.{nests_bare, length_pieces}
 use Rattle.rules.proofs.Picking.{picked_rule}
-use Rattle.rules.proofs.Whole.{whole_code}
 
 -- the number of the first test that fails, or else n
 abbrev pub first_wrong : Bool → Bool → Bool → Bool → Bool → ℕ → ℕ
@@ -25,13 +23,13 @@ module _ (d : Draft) {code : List Code} {given : List ℕ} {pieces : List Stored
   large : some_over (each numbers (expressions u)) ≡ some_over (numbers_in code)
   large =
       sym (ap some_over (picked_rule (λ n. n ∷ []) (λ x. []) u))
-      ∙ whole_code Bool-set (λ cs. some_over (numbers_in cs)) d
+      ∙ ap (λ (cs : List Code). some_over (numbers_in cs)) d.whole
       ∙ sym (ap (λ (cs : List Code). some_over (numbers_in cs)) same_code)
 
   missing : some_missing (given_names u) (each names (expressions u)) ≡ some_missing (given_names u) (names_in code)
   missing =
       sym (ap (some_missing (given_names u)) (picked_rule (λ n. []) (λ x. x ∷ []) u))
-      ∙ whole_code Bool-set (λ cs. some_missing (given_names u) (names_in cs)) d
+      ∙ ap (λ (cs : List Code). some_missing (given_names u) (names_in cs)) d.whole
       ∙ sym (ap (λ (cs : List Code). some_missing (given_names u) (names_in cs)) same_code)
 
   named : (some_twice (given_names u) || some_missing (given_names u) (each names (expressions u))) ≡ (some_twice given || some_missing given (names_in code))

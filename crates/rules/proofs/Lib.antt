@@ -4,4 +4,3 @@ pub mod Depths
 pub mod Judging
 pub mod Picking
 pub mod Searching
-pub mod Whole

@@ -15,7 +15,7 @@ pub struct Draft {
     pub guard: u8,
     pub codes: Codes,
     pub pieces: Pieces,
-    ghost whole: { ∥ rule_code (rule_from head guard (pieces_in pieces) (code_in codes)) ≡ code_in codes ∥₁ },
+    ghost whole: { rule_code (rule_from head guard (pieces_in pieces) (code_in codes)) ≡ code_in codes },
     ghost few: { guard ≤ 200 },
     ghost within: { guard + places_in (pieces_in pieces) ≤ length (code_in codes) },
 }

@@ -20,7 +20,7 @@ invariant_of-result c =
     let s = room_guard _ _ _ _ _ c.in_ok-guard.ensures in
     let n = c.in_ok-guard.ensures.size in
     record {
-      whole = ∣ rule_laid c.in_ok-head.head c.in_ok-guard.guard (pieces_in c.in_ok-pieces.pieces) (left c.args.self.now) (unread c.head.new.reader) (left c.guarded.new.self) (laid c.args.self.now) (laid c.guarded.new.self) (laid c.successor.new.self) c.in_ok-head.ensures c.in_ok-guard.ensures c.in_ok-pieces.ensures c.requires.none ∣₁;
+      whole = rule_laid c.in_ok-head.head c.in_ok-guard.guard (pieces_in c.in_ok-pieces.pieces) (left c.args.self.now) (unread c.head.new.reader) (left c.guarded.new.self) (laid c.args.self.now) (laid c.guarded.new.self) (laid c.successor.new.self) c.in_ok-head.ensures c.in_ok-guard.ensures c.in_ok-pieces.ensures c.requires.none;
       few = omega arith;
       within = rule_within c.in_ok-head.head c.in_ok-guard.guard (pieces_in c.in_ok-pieces.pieces) (left c.args.self.now) (unread c.head.new.reader) (left c.guarded.new.self) (laid c.args.self.now) (laid c.guarded.new.self) (laid c.successor.new.self) c.in_ok-head.ensures c.in_ok-guard.ensures c.in_ok-pieces.ensures c.requires.none;
     }
