@@ -66,7 +66,8 @@ impl Names {
         Ok(true)
     }
 
-    // The stack as code leaves it.
+    // The stack as code leaves it. A guard stops where it is decided, which its meaning needs; arguments go through all of
+    // their code, so the two loops are two.
     fn work(&self, code: &[Code]) -> Stack
         ensures { held result ≡ map (value (env_of self.now)) (decoded [] (take 200 code.now)) }
     {
