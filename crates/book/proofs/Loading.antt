@@ -11,14 +11,14 @@ or_swap true true z = refl
 or_swap true false z = refl
 or_swap false y z = refl
 
-pub two_entries : (d e : Entry) (b : Book) → Differs d e → with_entry e (with_entry d b) ≡ with_entry d (with_entry e b)
+two_entries : (d e : Entry) (b : Book) → Differs d e → with_entry e (with_entry d b) ≡ with_entry d (with_entry e b)
 two_entries (rule u) (rule v) b n = ap (λ (l : List Rule). record { rules = l; ignored = b.ignored }) (commute u v n b.rules)
 two_entries (rule u) (ignores cs) b n = refl
 two_entries (ignores cs) (rule v) b n = refl
 two_entries (ignores cs) (ignores ds) b n =
     ap (λ (f : ℕ → Bool). record { rules = b.rules; ignored = f }) (fun_ext (λ c. or_swap (among c ds) (among c cs) (b.ignored c)))
 
-pub differs_sym : (d e : Entry) → Differs d e → Differs e d
+differs_sym : (d e : Entry) → Differs d e → Differs e d
 differs_sym (rule u) (rule v) n = λ q. n (sym q)
 differs_sym (rule u) (ignores cs) n = tt
 differs_sym (ignores cs) (rule v) n = tt
@@ -36,7 +36,7 @@ distinct_moved (keep {e = x} r) h = (differs_moved x r h.0, distinct_moved r h.1
 distinct_moved (swap {d = x} {e = y}) h = ((differs_sym x y h.0.0, h.1.0), (h.0.1, h.1.1))
 distinct_moved (then p q) h = distinct_moved q (distinct_moved p h)
 
-reordered : {es ds : List Entry} → Reordered es ds → Distinct es → (b : Book) → loaded es b ≡ loaded ds b
+pub reordered : {es ds : List Entry} → Reordered es ds → Distinct es → (b : Book) → loaded es b ≡ loaded ds b
 reordered none h b = refl
 reordered (keep {e = x} r) h b = reordered r h.1 (with_entry x b)
 reordered (swap {d = x} {e = y} {es = zs}) h b = ap (loaded zs) (two_entries x y b h.0.0)

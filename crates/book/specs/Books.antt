@@ -1,5 +1,5 @@
 -- Books: rules in the order in which they are tried, and ignored letters. A book does not know in which order its lines came.
-use Rattle.std.specs.Prelude.{◌≡◌, ℕ, Bool, false, cond, ◌&&◌, ◌||◌, List, [], ◌∷◌, Some, None, Option, ◌==◌, nat_lt}
+use Rattle.std.specs.Prelude.{◌≡◌, ℕ, Bool, false, cond, ◌&&◌, ◌||◌, ◌⊎◌, List, [], ◌∷◌, Some, None, Option, ◌==◌, nat_lt}
 use Rattle.word.specs.Symbols.{among}
 use Rattle.book.specs.Rules.{Form, Rule}
 
@@ -21,6 +21,11 @@ precedes u v = nat_lt (rank_of u) (rank_of v) || (rank_of u == rank_of v && nat_
 abbrev pub with_rule : Rule → List Rule → List Rule
 with_rule u [] = u ∷ []
 with_rule u (v ∷ vs) = cond (precedes u v) (u ∷ v ∷ vs) (v ∷ with_rule u vs)
+
+-- u is one of some rules
+abbrev pub Among : Rule → List Rule → Type 0
+Among u [] = ⊥
+Among u (v ∷ vs) = (u ≡ v) ⊎ Among u vs
 
 pub record Book : Type 0 where
   pub rules : List Rule

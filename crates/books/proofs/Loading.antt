@@ -9,64 +9,37 @@ use Rattle.rules.specs.Wrong.{wrong}
 use Rattle.rules.proofs.Judging.{wrong_none, wrong_some}
 use Rattle.lines.specs.Reading.{Says}
 use Rattle.book.proofs.Recovered.{one_meaning}
-use Rattle.book.specs.Books.{Book, empty, with_rule, with_entry, loaded, DiffersAll, Distinct}
+use Rattle.book.specs.Books.{Among, Book, empty, with_rule, with_entry, loaded, DiffersAll, Distinct}
 use Rattle.books.specs.Refused.{holds_number, code_places, no_place, refused}
-use Rattle.books.specs.Loading.{Loads, Offer, Run, taken, Said, Among, Reordered, none, keep, swap, then, Law}
-use Rattle.book.proofs.Loading.{two_entries, differs_sym}
+use Rattle.books.specs.Loading.{Loads, Offer, Run, taken, Said, Reordered, none, keep, swap, then, Law}
+use Rattle.book.specs.Books as book
+use Rattle.book.specs.Label.{Holds as HoldsRule}
+use Rattle.book.proofs.Loading.{reordered}
+use Rattle.book.proofs.Winning.{in_new, in_old, in_book, from_book}
 use Rattle.books.proofs.Placing.{past}
-use Rattle.books.proofs.Sorting.{in_new, in_old, in_only, apart}
+use Rattle.books.proofs.Sorting.{apart}
 
--- entries put in one after the other, in any order
-differs_moved : (e : Entry) {es ds : List Entry} → Reordered es ds → DiffersAll e es → DiffersAll e ds
-differs_moved e none h = tt
-differs_moved e (keep r) h = (h.0, differs_moved e r h.1)
-differs_moved e swap h = (h.1.0, (h.0, h.1.1))
-differs_moved e (then p q) h = differs_moved e q (differs_moved e p h)
-
-distinct_moved : {es ds : List Entry} → Reordered es ds → Distinct es → Distinct ds
-distinct_moved none h = tt
-distinct_moved (keep {x = e} r) h = (differs_moved e r h.0, distinct_moved r h.1)
-distinct_moved (swap {x = d} {y = e}) h = ((differs_sym d e h.0.0, h.1.0), (h.0.1, h.1.1))
-distinct_moved (then p q) h = distinct_moved q (distinct_moved p h)
-
-reordered : {es ds : List Entry} → Reordered es ds → Distinct es → (b : Book) → loaded es b ≡ loaded ds b
-reordered none h b = refl
-reordered (keep {x = e} r) h b = reordered r h.1 (with_entry e b)
-reordered (swap {x = d} {y = e} {xs = es}) h b = ap (loaded es) (two_entries d e b h.0.0)
-reordered (then p q) h b = reordered p h b ∙ reordered q (distinct_moved p h) b
+-- entries in another order, in the words of the book's own law
+in_order : {es ds : List Entry} → Reordered es ds → book.Reordered es ds
+in_order none = book.none
+in_order (keep r) = book.keep (in_order r)
+in_order swap = book.swap
+in_order (then p q) = book.then (in_order p) (in_order q)
 
 -- e is one of some entries
 abbrev Holds : Entry → List Entry → Type 0
 Holds e [] = ⊥
 Holds e (d ∷ ds) = (d ≡ e) ⊎ Holds e ds
 
--- the rules of a book are those of its entries
-in_book : (es : List Entry) (b : Book) (v : Rule) → Holds (rule v) es ⊎ Among v b.rules → Among v (loaded es b).rules
-in_book [] b v (inl h) = absurd h
-in_book [] b v (inr h) = h
-in_book (rule u ∷ es) b v (inl (inl e)) = let same : u ≡ v = cc in in_book es (with_entry (rule u) b) v (inr (subst (λ (y : Rule). Among y (with_rule u b.rules)) same (in_new u b.rules)))
-in_book (ignores cs ∷ es) b v (inl (inl e)) = let z : ◌≡◌ {A = ℕ} 0 1 = cc in absurd (omega arith)
-in_book (rule u ∷ es) b v (inl (inr h)) = in_book es (with_entry (rule u) b) v (inl h)
-in_book (ignores cs ∷ es) b v (inl (inr h)) = in_book es (with_entry (ignores cs) b) v (inl h)
-in_book (rule u ∷ es) b v (inr h) = in_book es (with_entry (rule u) b) v (inr (in_old u v b.rules h))
-in_book (ignores cs ∷ es) b v (inr h) = in_book es (with_entry (ignores cs) b) v (inr h)
+rule_of : (u : Rule) (es : List Entry) → Holds (rule u) es → HoldsRule u es
+rule_of u [] h = h
+rule_of u (e ∷ es) (inl q) = inl q
+rule_of u (e ∷ es) (inr h) = inr (rule_of u es h)
 
-from_book : (es : List Entry) (b : Book) (v : Rule) → Among v (loaded es b).rules → Holds (rule v) es ⊎ Among v b.rules
-from_book [] b v h = inr h
-from_book (rule u ∷ es) b v h = go (from_book es (with_entry (rule u) b) v h)
-  where
-    old : (v ≡ u) ⊎ Among v b.rules → ((rule u ≡ rule v) ⊎ Holds (rule v) es) ⊎ Among v b.rules
-    old (inl e) = inl (inl (ap (λ (y : Rule). rule y) (sym e)))
-    old (inr k) = inr k
-
-    go : Holds (rule v) es ⊎ Among v (with_rule u b.rules) → ((rule u ≡ rule v) ⊎ Holds (rule v) es) ⊎ Among v b.rules
-    go (inl k) = inl (inr k)
-    go (inr k) = old (in_only u v b.rules k)
-from_book (ignores cs ∷ es) b v h = go (from_book es (with_entry (ignores cs) b) v h)
-  where
-    go : Holds (rule v) es ⊎ Among v b.rules → ((ignores cs ≡ rule v) ⊎ Holds (rule v) es) ⊎ Among v b.rules
-    go (inl k) = inl (inr k)
-    go (inr k) = inr k
+of_rule : (u : Rule) (es : List Entry) → HoldsRule u es → Holds (rule u) es
+of_rule u [] h = h
+of_rule u (e ∷ es) (inl q) = inl q
+of_rule u (e ∷ es) (inr h) = inr (of_rule u es h)
 
 -- the letters of a book are those of its entries
 ignored_still : (es : List Entry) (b : Book) (c : ℕ) → b.ignored c ≡ true → (loaded es b).ignored c ≡ true
@@ -221,10 +194,10 @@ module _ (os : List Offer) (b : Book) (r : Run empty os b) where
   e = entries_of os empty b r
 
   has_rules : (u : Rule) → Said (rule u) (taken os) → Among u b.rules
-  has_rules u h = subst (λ (z : Book). Among u z.rules) (sym e.made) (in_book e.entries empty u (inl (said_held (taken os) e.entries e.spelt (rule u) h)))
+  has_rules u h = subst (λ (z : Book). Among u z.rules) (sym e.made) (in_book e.entries empty u (inl (rule_of u e.entries (said_held (taken os) e.entries e.spelt (rule u) h))))
 
   only_rules : (u : Rule) → Among u b.rules → Said (rule u) (taken os)
-  only_rules u h = held_said (taken os) e.entries e.spelt (rule u) (from_none (from_book e.entries empty u (subst (λ (z : Book). Among u z.rules) e.made h)) (λ n. n))
+  only_rules u h = held_said (taken os) e.entries e.spelt (rule u) (of_rule u e.entries (from_none (from_book e.entries empty u (subst (λ (z : Book). Among u z.rules) e.made h)) (λ n. n)))
 
   has_letters : (c : ℕ) (cs : List ℕ) → among c cs ≡ true → Said (ignores cs) (taken os) → b.ignored c ≡ true
   has_letters c cs a h = ap (λ (z : Book). z.ignored c) e.made ∙ ignored_in e.entries empty c cs a (said_held (taken os) e.entries e.spelt (ignores cs) h)
@@ -240,7 +213,7 @@ any_order os ps b c r s p =
     let y = entries_of ps empty c s in
     let m = moved p x.entries x.spelt in
     x.made
-    ∙ reordered m.1.0 (fresh_apart x.entries empty x.fresh).0 empty
+    ∙ reordered (in_order m.1.0) (fresh_apart x.entries empty x.fresh).0 empty
     ∙ ap (λ (ds : List Entry). loaded ds empty) (spell_once (taken ps) m.0 y.entries m.1.1 y.spelt)
     ∙ sym y.made
 

@@ -17,13 +17,13 @@ use Rattle.rules.specs.Wrong as rules
 use Rattle.rules.proofs.Depths.{nests_bare, deepest_bare}
 use Rattle.books.specs.declared.rule.Rule.{Rule as StoredRule}
 use Rattle.books.specs.declared.closed_book.ClosedBook.{ClosedBook}
-use Rattle.books.specs.Loading.{Among}
+use Rattle.book.specs.Books.{Among}
 use Rattle.book.specs.Winners.{says, decides, winner}
 use Rattle.books.specs.Outcomes.{Outcome, itself, grown, fault, with_first, successor, by_verdict, by_rule, becomes}
 use Rattle.books.specs.Nesting.{balanced, deepest}
 use Rattle.books.specs.Stored.{code_held, rule_in, listed, rules_in}
 use Rattle.books.specs.Kinds.{closed_book}
-use Rattle.books.proofs.Winning.{first_passes}
+use Rattle.book.proofs.Winning.{first_passes}
 
 -- a successor that is worked out: a module with the letter of each piece and its arguments
 pub data Made : Env → List Piece → List Symbol → Type 0 where

@@ -1,14 +1,14 @@
 -- Rules tried one after the other.
-use Rattle.std.proofs.Common.{◌≡◌, ℕ, zero, suc, ◌+◌, ◌≤◌, Bool, true, false, cond, ◌&&◌, leb, List, [], ◌∷◌, drop, Some, Option, sym, ap, ◌∙◌, subst, leb-true}
+use Rattle.std.proofs.Common.{◌≡◌, ℕ, zero, suc, ◌+◌, ◌≤◌, true, false, ◌&&◌, leb, List, [], ◌∷◌, drop, Option, sym, ap, ◌∙◌, subst, leb-true}
 use mathlib.Core.Path.{fun_ext}
 use Rattle.std.proofs.lemmas.Bool.{and_parts, and_from}
 use Rattle.word.specs.Symbols.{Symbol}
 use Rattle.expr.specs.Values.{Env, Verdict, passes, fails, faults, guard}
 use Rattle.book.specs.Rules.{Rule, names_at}
 use Rattle.books.specs.declared.rule.Rule.{Rule as StoredRule}
-use Rattle.book.specs.Winners.{not_false, says, decides, winner}
+use Rattle.book.specs.Winners.{not_false, says, decides}
 use Rattle.book.specs.Winners.{candidate}
-use Rattle.books.specs.Outcomes.{Outcome, fault, successor, by_verdict, by_rule, becomes}
+use Rattle.books.specs.Outcomes.{Outcome, fault, successor, by_verdict}
 use Rattle.books.specs.Kept.{within}
 
 pub within_at : (n : ℕ) (rs : List StoredRule) → within n rs ≡ true → (i : ℕ) (r : StoredRule) (qs : List StoredRule) → drop i rs ≡ r ∷ qs → r.start + r.size ≤ n
@@ -44,6 +44,3 @@ module _ (l : Option Symbol) (s : Symbol) (r : Option Symbol) where
     on_fault n p =
         let v = verdict (faults n) p in
         (and_from (candidate l s r u) (not_false (says l s r u)) fits (ap not_false v), ap (λ (x : Verdict). by_verdict l s r x u) (sym v))
-
-  pub decided : (u : Rule) (us : List Rule) → decides l s r u ≡ true → becomes l s r (u ∷ us) ≡ by_verdict l s r (says l s r u) u
-  decided u us h = ap (λ (t : Bool). by_rule l s r (cond t (Some u) (winner l s r us))) h

@@ -4,7 +4,7 @@ use Rattle.std.specs.Prelude.{◌≡◌, true, false, ◌⊎◌, List, Some, Non
 use Rattle.word.specs.Symbols.{Symbol}
 use Rattle.book.specs.Rules.{Rule}
 use Rattle.book.specs.Label.{GrowsBefore}
-use Rattle.books.specs.Loading.{Among}
+use Rattle.book.specs.Books.{Among}
 use Rattle.book.specs.Winners.{decides, winner}
 
 -- Of all the rules of a book that fit a module s between its neighbours, the winner grows rather than any other; and where one

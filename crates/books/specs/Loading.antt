@@ -4,7 +4,7 @@ use Rattle.word.specs.Symbols.{among}
 use Rattle.book.specs.Rules.{Rule}
 use Rattle.book.specs.Books.{Entry, rule, ignores}
 use Rattle.lines.specs.Reading.{Says, Unspelt}
-use Rattle.book.specs.Books.{Book, empty, with_entry}
+use Rattle.book.specs.Books.{Among, Book, empty, with_entry}
 use Rattle.books.specs.Refused.{refused}
 
 -- a line is taken: it is short and by the grammar, nothing speaks against what it says, and the book has that from now on
@@ -49,11 +49,6 @@ taken (o ∷ os) = cond (o.answer == 0) (o.line ∷ taken os) (taken os)
 abbrev pub Said : Entry → List (List ℕ) → Type 0
 Said e [] = ⊥
 Said e (l ∷ ls) = Says l e ⊎ Said e ls
-
--- u is one of some rules
-abbrev pub Among : Rule → List Rule → Type 0
-Among u [] = ⊥
-Among u (v ∷ vs) = (u ≡ v) ⊎ Among u vs
 
 -- the same elements in another order
 pub data Reordered {A : Type 0} : List A → List A → Type 0 where

@@ -4,8 +4,8 @@ ghost use Rattle.rows.specs.Rows.{held};
 ghost use Rattle.rules.specs.Records.{places_in, bare};
 ghost use Rattle.rules.specs.Wrong.{nests, deepest};
 
-use rules::head::Head;
 use rows::row::Row;
+use rules::head::Head;
 use rules::piece::Piece;
 
 pub mod fit;

@@ -1,5 +1,5 @@
 pub mod Wide
-pub mod Stacks
+pub mod Tables
 pub mod Working
 pub mod Gathering
 pub mod Examples

@@ -1,6 +1,6 @@
 -- The brackets of a successor, one letter or bracket after the other.
-use Rattle.std.proofs.Common.{◌≡◌, ℕ, suc, pred, ◌+◌, ◌≤◌, max, Bool, false, cond, not, ◌&&◌, eqb, ◌⊎◌, List, [], ◌∷◌, map, length, drop, refl, ap, inl, inr, arith}
-use Rattle.std.proofs.lemmas.Bool.{and_left, and_right, ne_eqb, cond_both}
+use Rattle.std.proofs.Common.{◌≡◌, ℕ, suc, pred, ◌+◌, ◌≤◌, max, Bool, cond, not, ◌&&◌, eqb, List, [], ◌∷◌, map, length, drop, refl, ap, arith}
+use Rattle.std.proofs.lemmas.Bool.{cond_both}
 use Rattle.word.specs.Symbols.{is_open, is_close}
 use Rattle.expr.specs.declared.code.Code.{Code}
 use Rattle.rules.specs.declared.piece.Piece.{Piece as StoredPiece}
@@ -25,17 +25,6 @@ pub after_few : (d : ℕ) (p : Piece) → after d p ≤ suc d
 after_few d p =
     cond_both (is_open p.letter) (suc d) (cond (is_close p.letter) (pred d) d) (λ k. k ≤ suc d) (λ e. omega arith)
     (λ e. cond_both (is_close p.letter) (pred d) d (λ k. k ≤ suc d) (λ f. omega arith) (λ f. omega arith))
-
--- a bracket closes that is not open
-pub closes_none : (d : ℕ) (p : Piece) (ps : List Piece) → p.letter ≡ 93 → d ≡ 0 → nests d (p ∷ ps) ≡ false
-closes_none d p ps e f = λ i. not (eqb (e i) 93 && eqb (f i) 0) && nests (after d p) ps
-
-pub nests_on : (d : ℕ) (p : Piece) (ps : List Piece) → ((p.letter ≡ 93) × (d ≡ 0 → ⊥)) ⊎ (p.letter ≡ 93 → ⊥) → nests d (p ∷ ps) ≡ nests (after d p) ps
-nests_on d p ps h = ap (λ (t : Bool). not t && nests (after d p) ps) (open_or_no h)
-  where
-    open_or_no : ((p.letter ≡ 93) × (d ≡ 0 → ⊥)) ⊎ (p.letter ≡ 93 → ⊥) → (is_close p.letter && eqb d 0) ≡ false
-    open_or_no (inl k) = and_right (is_close p.letter) (eqb d 0) (ne_eqb d 0 k.1)
-    open_or_no (inr k) = and_left (is_close p.letter) (eqb d 0) (ne_eqb p.letter 93 k)
 
 pub deep_enough : (d : ℕ) (ps : List Piece) → d ≤ deepest d ps
 deep_enough d [] = omega arith

@@ -1,9 +1,9 @@
 -- Searches along a list.
-use Rattle.std.proofs.Common.{◌≡◌, ℕ, ◌+◌, ◌<◌, ◌≤◌, Bool, true, false, not, ◌||◌, ltb, List, [], ◌∷◌, ◌++◌, length, get_or, drop, sym, refl, ap, ◌∙◌, arith}
+use Rattle.std.proofs.Common.{◌≡◌, ℕ, ◌+◌, ◌<◌, Bool, true, false, not, ◌||◌, ltb, List, [], ◌∷◌, ◌++◌, length, get_or, drop, sym, refl, ap, ◌∙◌, arith}
 use Rattle.std.specs.Bool.{MatchBool}
 use Rattle.std.proofs.Math.Bool.{or-false, or_assoc}
 use Rattle.std.specs.List.{list_any, HoldsAt, AllWithin}
-use Rattle.std.proofs.lemmas.List.{at_drop_more, at_drop_all}
+use Rattle.std.proofs.lemmas.List.{at_drop_more}
 use Rattle.std.proofs.lemmas.List.Folds.{list_any_at, list_any_none}
 use Rattle.word.specs.Symbols.{among}
 use Rattle.expr.specs.declared.code.Code.{Code}
@@ -12,9 +12,6 @@ use Rattle.rules.specs.Wrong.{some_over, some_missing}
 
 -- a loop along a list, where what is left still gives the answer y
 module _ {X Y : Type 0} (F : List X → Y) (xs : List X) (i : ℕ) {y : Y} (left : F (drop i xs) ≡ y) where
-  pub searched : length xs ≤ i → F [] ≡ y
-  searched h = sym (at_drop_all F xs i h) ∙ left
-
   pub opened : (d : X) → i < length xs → F (get_or xs i d ∷ drop (i + 1) xs) ≡ y
   opened d h = sym (at_drop_more F xs i d h) ∙ left
 

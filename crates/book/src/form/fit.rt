@@ -15,8 +15,10 @@ fn give_each(own: &[u8], values: &[i32], names: &mut Names)
     requires { list_all is_name own.now ≡ true }
     ensures { (x : ℕ) → env_of names.new x ≡ given own.now values.now (env_of names.old) x }
 {
-    if let (Some((name, later)), Some((value, behind))) = (own.split_first(), values.split_first())
-    {
+    if let (Some((name, later)), Some((value, behind))) = (
+        own.split_first(),
+        values.split_first(),
+    ) {
         give_each(later, behind, names);
         names.bind(*name, *value);
     }

@@ -83,7 +83,11 @@ impl Rule {
         requires { self.now.size ≤ length code.now }
         ensures { grown_of result ≡ successor (env_of names.now) (pieces_from (held self.now.pieces) (drop self.now.guard code.now)) }
     {
-        let modules = grow_pieces(self.pieces.as_slice(), &code[usize::from(self.guard)..], names)?;
+        let modules = grow_pieces(
+            self.pieces.as_slice(),
+            &code[usize::from(self.guard)..],
+            names,
+        )?;
         Ok(Growth {
             modules,
             depth: self.depth,

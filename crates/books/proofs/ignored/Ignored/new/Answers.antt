@@ -1,5 +1,5 @@
 use Rattle.std.proofs.Common.{false}
-use Rattle.books.proofs.Rows.{all_same}
+use Rattle.expr.proofs.Tables.{all_same}
 use Rattle.books.proofs.ignored.Ignored.new.Goals as goal
 
 pub returns : goal.returns

@@ -1,6 +1,6 @@
 use Rattle.std.proofs.Common.{◌≡◌, ◌-◌, Bool, true, false, cond, ℤ, pos, refl, ap, ◌∙◌}
 use Rattle.expr.specs.Records.{is_name}
-use Rattle.expr.proofs.Stacks.{all_same}
+use Rattle.expr.proofs.Tables.{all_same}
 use Rattle.expr.proofs.names.Names.new.Goals as goal
 
 pub returns : goal.returns
