@@ -65,7 +65,7 @@ impl<'a> Reader<'a> {
     }
 
     /// Passes over the next token.
-    pub fn skip(&mut self)
+    pub fn pass(&mut self)
         ensures whole { unread self.new ≡ rest (unread self.old) }
         ensures passes { Passes self.old self.new }
     {
