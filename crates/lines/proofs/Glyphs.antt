@@ -1,14 +1,14 @@
 -- Letters and names by their tokens.
-use Rattle.std.proofs.Common.{◌≡◌, ℕ, ◌≤◌, Bool, true, false, cond, ◌&&◌, eqb, leb, List, [], ◌∷◌, ◌++◌, refl, ap, ◌∙◌, subst, arith}
+use Rattle.std.proofs.Common.{◌≡◌, ℕ, ◌≤◌, Bool, true, false, cond, ◌&&◌, eqb, leb, List, [], ◌∷◌, ◌++◌, Some, refl, ap, ◌∙◌, subst, arith}
 use Rattle.std.proofs.lemmas.Bool.{and_parts, cond_both, leb-true}
 use Rattle.std.proofs.lemmas.Bool.Decides.{nat_tests}
 use Rattle.word.specs.Symbols.{is_letter}
 use Rattle.tokens.specs.declared.token.Sign.{Sign}
 use Rattle.tokens.specs.declared.token.Sign.TheVariants.{Letter, Plus, Minus, Times, Over, Opens, Closes, Less, Equal, More, Also, Comma, Colon, Asks, Ignores, Branches, Rejoins, Stray}
 use Rattle.tokens.specs.declared.token.Token.{Token}
-use Rattle.tokens.specs.declared.token.Token.TheVariants.{Number, Name, Sign as Mark, End}
+use Rattle.tokens.specs.declared.token.Token.TheVariants.{Number, Name, Sign as Mark}
 use Rattle.tokens.specs.Tokens.{Lexeme, sign, is_name, letter_only, lone, paired, sign_of, tokens}
-use Rattle.tokens.specs.Readers.{means, Formed}
+use Rattle.tokens.specs.Readers.{means}
 use Rattle.book.specs.Grammar.{Glyph, small, high, cross, dash, ampersand, slash, glyph}
 use Rattle.book.specs.Meanings.{letter_of}
 use Rattle.lines.specs.Fits.{rank, Which, name_due, fits}
@@ -64,8 +64,7 @@ sign_real bs ampersand e = refl
 sign_real bs slash e = refl
 
 -- only a name may stand where one is due
-pub unnamed : (t : Token) (ts : List Lexeme) (bs : List ℕ) → ts ≡ means t ++ tokens bs → Formed t bs → ((p : _) → t ≡ Name p → ⊥) → (w : Which) (n : ℕ) → fits (name_due w n) ts ≡ false
-unnamed (Number p) ts bs e f other w n = ap (fits (name_due w n)) e ∙ never (tokens bs)
-unnamed (Name p) ts bs e f other w n = absurd (other p refl)
-unnamed (Mark p) ts bs e f other w n = ap (fits (name_due w n)) e ∙ never (tokens bs)
-unnamed End ts bs e f other w n = ap (fits (name_due w n)) (e ∙ ap tokens f)
+pub unnamed : (t : Token) (ts : List Lexeme) (bs : List ℕ) → ts ≡ means (Some t) ++ tokens bs → ((p : _) → t ≡ Name p → ⊥) → (w : Which) (n : ℕ) → fits (name_due w n) ts ≡ false
+unnamed (Number p) ts bs e other w n = ap (fits (name_due w n)) e ∙ never (tokens bs)
+unnamed (Name p) ts bs e other w n = absurd (other p refl)
+unnamed (Mark p) ts bs e other w n = ap (fits (name_due w n)) e ∙ never (tokens bs)

@@ -34,13 +34,13 @@ codes_more [] t = append-nil (code_of (sense t))
 codes_more (s ∷ ss) t = ap (λ (l : List Code). code_of (sense s) ++ l) (codes_more ss t) ∙ sym (append_assoc (code_of (sense s)) (codes_of (map sense ss)) (code_of (sense t)))
 
 -- a comma asks for a sum, where one more may stand
-comma_on : (m : ℕ) (us : List Lexeme) → m < 3 → us ≡ sign Comma ∷ rest us → fits (read 0 (argument (3 - m))) us ≡ fits (due 0 (argument (3 - (m + 1)))) (rest us)
-comma_on m us h head =
+comma_on : (m : ℕ) (us ws : List Lexeme) → m < 3 → us ≡ sign Comma ∷ ws → fits (read 0 (argument (3 - m))) us ≡ fits (due 0 (argument (3 - (m + 1)))) ws
+comma_on m us ws h head =
     let e : 3 - m ≡ suc (3 - (m + 1)) = omega arith in
     ap (λ k. fits (read 0 (argument k)) us) e ∙ ap (fits (read 0 (argument (suc (3 - (m + 1)))))) head
 
-pub one_argument : (n m : ℕ) (ts us vs : List Lexeme) (cs ds es : List Code) → Arguing n m ts us cs ds → m < 3 → us ≡ sign Comma ∷ rest us → Took sum (rest us) vs ds es → Arguing n (m + 1) ts vs cs es
-one_argument n m ts us vs cs ds es a few head t =
+pub one_argument : (n m : ℕ) (ts us ws vs : List Lexeme) (cs ds es : List Code) → Arguing n m ts us cs ds → m < 3 → us ≡ sign Comma ∷ ws → Took sum ws vs ds es → Arguing n (m + 1) ts vs cs es
+one_argument n m ts us ws vs cs ds es a few head t =
     let l = length-append a.more (t.tree ∷ []) in
     let k = a.count_is in
     record {
@@ -48,7 +48,7 @@ one_argument n m ts us vs cs ds es a few head t =
       spelt = a.spelt ∙ ap (λ (l : List Lexeme). commas spells a.more ++ l) (head ∙ ap (λ (l : List Lexeme). sign Comma ∷ l) t.spelt) ∙ sym (commas_more spells a.more t.tree vs);
       coded = t.coded ∙ ap (λ (l : List Code). l ++ code_of (sense t.tree)) a.coded ∙ append_assoc cs (codes_of (map sense a.more)) (code_of (sense t.tree)) ∙ ap (λ (l : List Code). cs ++ l) (sym (codes_more a.more t.tree));
       count_is = omega arith;
-      onward = a.onward ∙ comma_on m us few head ∙ ap (fits (due 0 (argument (3 - (m + 1))))) t.spelt ∙ follows t.tree vs 0 (argument (3 - (m + 1)));
+      onward = a.onward ∙ comma_on m us ws few head ∙ ap (fits (due 0 (argument (3 - (m + 1))))) t.spelt ∙ follows t.tree vs 0 (argument (3 - (m + 1)));
     }
 
 closed_on : (n : ℕ) (us : List Lexeme) → fits (read 0 (argument n)) (sign Closes ∷ us) ≡ fits pieces us
@@ -60,7 +60,7 @@ summed_lost zero s h k = cond-false (is Closes s) pieces lost h
 summed_lost (suc n) s h k = cond-false (is Closes s) pieces (cond (is Comma s) (due 0 (argument n)) lost) h ∙ cond-false (is Comma s) (due 0 (argument n)) lost k
 
 -- arguments from the first one on
-module _ (ts us : List Lexeme) (cs ds : List Code) (head : ts ≡ sign Opens ∷ rest ts) (t : Took sum (rest ts) us cs ds) where
+module _ (ts us xs : List Lexeme) (cs ds : List Code) (head : ts ≡ sign Opens ∷ xs) (t : Took sum xs us cs ds) where
   starts : fits lettered ts ≡ fits (read 0 (argument 2)) us
   starts = ap (fits lettered) head ∙ ap (fits (due 0 (argument 2))) t.spelt ∙ follows t.tree us 0 (argument 2)
 
@@ -81,13 +81,13 @@ module _ (ts us : List Lexeme) (cs ds : List Code) (head : ts ≡ sign Opens ∷
         onward = starts ∙ a.onward ∙ ap (fits (read 0 (argument (3 - m)))) closes ∙ closed_on (3 - m) ws;
       }
 
-  pub lost_fourth : (m : ℕ) (vs : List Lexeme) (es : List Code) → Arguing 1 m us vs ds es → m ≡ 3 → vs ≡ sign Comma ∷ rest vs → fits lettered ts ≡ false
-  lost_fourth m vs es a full comma =
+  pub lost_fourth : (m : ℕ) (vs ws : List Lexeme) (es : List Code) → Arguing 1 m us vs ds es → m ≡ 3 → vs ≡ sign Comma ∷ ws → fits lettered ts ≡ false
+  lost_fourth m vs ws es a full comma =
       let e : 3 - m ≡ 0 = omega arith in
-      starts ∙ a.onward ∙ ap (λ k. fits (read 0 (argument k)) vs) e ∙ ap (fits (read 0 (argument 0))) comma ∙ never (rest vs)
+      starts ∙ a.onward ∙ ap (λ k. fits (read 0 (argument k)) vs) e ∙ ap (fits (read 0 (argument 0))) comma ∙ never ws
 
-  pub lost_next : (m : ℕ) (vs : List Lexeme) (es : List Code) → Arguing 1 m us vs ds es → m < 3 → vs ≡ sign Comma ∷ rest vs → Lost sum (rest vs) → fits lettered ts ≡ false
-  lost_next m vs es a few comma l = starts ∙ a.onward ∙ comma_on m vs few comma ∙ l 0 (argument (3 - (m + 1)))
+  pub lost_next : (m : ℕ) (vs ws : List Lexeme) (es : List Code) → Arguing 1 m us vs ds es → m < 3 → vs ≡ sign Comma ∷ ws → Lost sum ws → fits lettered ts ≡ false
+  lost_next m vs ws es a few comma l = starts ∙ a.onward ∙ comma_on m vs ws few comma ∙ l 0 (argument (3 - (m + 1)))
 
   pub lost_close : (m : ℕ) (vs : List Lexeme) (es : List Code) → Arguing 1 m us vs ds es → joins (first_sign vs) ≡ false → is Comma (first_sign vs) ≡ false → is Closes (first_sign vs) ≡ false → fits lettered ts ≡ false
   lost_close m vs es a j h k =

@@ -1,5 +1,5 @@
 -- How many code places and tokens there are.
-use Rattle.std.proofs.Common.{◌≡◌, ◌+◌, ◌<◌, ◌≤◌, ltb, List, [], ◌∷◌, ◌++◌, length, ap, ◌∙◌, append-nil, arith, length-append}
+use Rattle.std.proofs.Common.{◌≡◌, ◌+◌, ◌<◌, ◌≤◌, Bool, true, false, cond, ltb, List, [], ◌∷◌, ◌++◌, length, sym, ap, subst, ◌∙◌, append-nil, arith, length-append}
 use Rattle.std.proofs.lemmas.Bool.{cond-true, lt-ltb}
 use Rattle.expr.specs.declared.code.Code.{Code}
 use Rattle.expr.specs.Codes.{comparisons_code}
@@ -13,6 +13,14 @@ use Rattle.book.proofs.Unique.{one_more}
 -- a row that is not full takes one more
 pub one_pushed : {A : Type 0} (x : A) (xs : List A) → length xs < 200 → pushed x xs ≡ xs ++ (x ∷ [])
 one_pushed x xs h = cond-true (ltb (length xs) 200) (xs ++ (x ∷ [])) xs (lt-ltb (length xs) 200 h)
+
+-- no push adds more than one place
+pub room_pushed : {A : Type 0} (x : A) (xs ys : List A) → ys ≡ pushed x xs → length ys ≤ length xs + 1
+room_pushed x xs ys e = subst (λ l. length l ≤ length xs + 1) (sym e) (go (ltb (length xs) 200))
+  where
+    go : (b : Bool) → length (cond b (xs ++ (x ∷ [])) xs) ≤ length xs + 1
+    go true = simp length-append (omega arith)
+    go false = omega arith
 
 -- each code place has a token of its own
 pub short : {k : Part} (t : Tree k) → length (part_code k (sense t)) ≤ length (spells t)

@@ -1,15 +1,16 @@
 -- What each step of reading a sum keeps, and what its refusals show.
-use Rattle.std.proofs.Common.{◌≡◌, ℕ, suc, ◌<◌, ◌≤◌, true, false, cond, leb, List, [], ◌∷◌, ◌++◌, length, IsErrAnd, Some, None, Ok, Err, Result, sym, refl, ap, ◌∙◌, append_assoc, arith}
+use Rattle.std.proofs.Common.{◌≡◌, ℕ, suc, ◌<◌, ◌≤◌, true, false, cond, leb, List, [], ◌∷◌, ◌++◌, length, IsErrAnd, Option, Some, None, IfSome, Ok, Err, Result, is_ok, Bool, sym, refl, ap, ◌∙◌, append_assoc, arith}
+use Rattle.std.specs.Option.{ok_or}
 use Rattle.std.specs.Str.{all_ascii_digits}
 use Rattle.std.proofs.lemmas.Result.{err_from_is_err_and}
-use Rattle.std.proofs.lemmas.Bool.{cond-false, lt-leb}
+use Rattle.std.proofs.lemmas.Bool.{both_ways, cond-false, lt-leb}
 use Rattle.std.proofs.lemmas.Bool.Decides.{nat_tests}
 use Rattle.word.specs.Text.{worth}
 use Rattle.word.specs.Text as text
 use Rattle.tokens.specs.declared.token.Sign.{Sign}
-use Rattle.tokens.specs.declared.token.Sign.TheVariants.{Plus, Minus, Times, Over, Opens, Closes}
+use Rattle.tokens.specs.declared.token.Sign.TheVariants.{Minus, Opens, Closes, Stray}
 use Rattle.tokens.specs.Tokens.{Lexeme, number, name, sign}
-use Rattle.tokens.specs.Readers.{first_sign, rest}
+use Rattle.tokens.specs.Readers.{leading, first_sign, rest}
 use Rattle.expr.specs.declared.code.Code.{Code}
 use Rattle.expr.specs.declared.code.Code.TheVariants.{Number, Name, Negate}
 use Rattle.rules.specs.declared.refusal.Refusal.{Refusal}
@@ -20,7 +21,7 @@ use Rattle.lines.specs.Fits.{is, joins, Side, Place, due, bare, read, lost, coun
 use Rattle.lines.specs.Parts.{Multiplying, by_times, by_over, Adding, by_plus, by_minus, part_code, Took, Lost}
 use Rattle.lines.specs.Parsing.{Read}
 use Rattle.lines.proofs.Complete.{after_join, follows}
-use Rattle.lines.proofs.Signs.{never, headed, read_on}
+use Rattle.lines.proofs.Signs.{never, read_on}
 
 -- a part that ended at the tokens ts and the code cs goes on to us and ds
 abbrev pub Onward : Part → List Lexeme → List Lexeme → List Code → List Code → Type 0
@@ -28,8 +29,8 @@ Onward k ts us cs ds = (ws : List Lexeme) (bs : List Code) → Took k ws ts bs c
 
 -- one more part k2, after a sign s, with the code xs behind it
 module _ (k k2 : Part) (s : Sign) (xs : List Code) (joined : (t : Tree k) (u : Tree k2) → (q : Tree k) × (spells q ≡ spells t ++ (sign s ∷ spells u)) × (part_code k (sense q) ≡ (part_code k (sense t) ++ part_code k2 (sense u)) ++ xs)) where
-  pub with_more : (ts us vs : List Lexeme) (cs ds es fs : List Code) → Took k ts us cs ds → us ≡ sign s ∷ rest us → Took k2 (rest us) vs ds es → fs ≡ es ++ xs → Took k ts vs cs fs
-  with_more ts us vs cs ds es fs a head b pushed =
+  pub with_more : (ts us ws vs : List Lexeme) (cs ds es fs : List Code) → Took k ts us cs ds → us ≡ sign s ∷ ws → Took k2 ws vs ds es → fs ≡ es ++ xs → Took k ts vs cs fs
+  with_more ts us ws vs cs ds es fs a head b pushed =
       let q = joined a.tree b.tree in
       let x = part_code k (sense a.tree) in
       let y = part_code k2 (sense b.tree) in
@@ -47,20 +48,11 @@ added : {s : Sign} {c : Code} → Adding s c → (p : Tree sum) (f : Tree produc
 added by_plus p f = (plus p f, refl, refl)
 added by_minus p f = (less p f, refl, refl)
 
--- a sign that joins stands first
-pub multiplies_head : {s : Sign} {c : Code} (us : List Lexeme) → s ≡ first_sign us → Multiplying s c → us ≡ sign s ∷ rest us
-multiplies_head us e by_times = headed us Times (sym e) refl
-multiplies_head us e by_over = headed us Over (sym e) refl
+pub more_factors : {s : Sign} {c : Code} (ts us ws vs : List Lexeme) (cs ds es fs : List Code) → Multiplying s c → Onward product ts us cs ds → us ≡ sign s ∷ ws → Took factor ws vs ds es → fs ≡ es ++ (c ∷ []) → Onward product ts vs cs fs
+more_factors {s} {c} ts us ws vs cs ds es fs m g head took pushed xs bs t = with_more product factor s (c ∷ []) (multiplied m) xs us ws vs bs ds es fs (g xs bs t) head took pushed
 
-pub adds_head : {s : Sign} {c : Code} (us : List Lexeme) → s ≡ first_sign us → Adding s c → us ≡ sign s ∷ rest us
-adds_head us e by_plus = headed us Plus (sym e) refl
-adds_head us e by_minus = headed us Minus (sym e) refl
-
-pub more_factors : {s : Sign} {c : Code} (ts us vs : List Lexeme) (cs ds es fs : List Code) → Multiplying s c → Onward product ts us cs ds → us ≡ sign s ∷ rest us → Took factor (rest us) vs ds es → fs ≡ es ++ (c ∷ []) → Onward product ts vs cs fs
-more_factors {s} {c} ts us vs cs ds es fs m g head took pushed ws bs t = with_more product factor s (c ∷ []) (multiplied m) ws us vs bs ds es fs (g ws bs t) head took pushed
-
-pub more_products : {s : Sign} {c : Code} (ts us vs : List Lexeme) (cs ds es fs : List Code) → Adding s c → Onward sum ts us cs ds → us ≡ sign s ∷ rest us → Took product (rest us) vs ds es → fs ≡ es ++ (c ∷ []) → Onward sum ts vs cs fs
-more_products {s} {c} ts us vs cs ds es fs m g head took pushed ws bs t = with_more sum product s (c ∷ []) (added m) ws us vs bs ds es fs (g ws bs t) head took pushed
+pub more_products : {s : Sign} {c : Code} (ts us ws vs : List Lexeme) (cs ds es fs : List Code) → Adding s c → Onward sum ts us cs ds → us ≡ sign s ∷ ws → Took product ws vs ds es → fs ≡ es ++ (c ∷ []) → Onward sum ts vs cs fs
+more_products {s} {c} ts us ws vs cs ds es fs m g head took pushed xs bs t = with_more sum product s (c ∷ []) (added m) xs us ws vs bs ds es fs (g xs bs t) head took pushed
 
 pub as_product : {ts us : List Lexeme} {cs ds : List Code} → Took factor ts us cs ds → Took product ts us cs ds
 as_product t = record { tree = one_factor t.tree; spelt = t.spelt; coded = t.coded }
@@ -71,8 +63,8 @@ as_sum t = record { tree = one_product t.tree; spelt = t.spelt; coded = t.coded 
 pub as_factor : {ts us : List Lexeme} {cs ds : List Code} → Took operand ts us cs ds → Took factor ts us cs ds
 as_factor t = record { tree = plain t.tree; spelt = t.spelt; coded = t.coded }
 
-pub as_negated : (ts us : List Lexeme) (cs ds es : List Code) → ts ≡ sign Minus ∷ rest ts → Took operand (rest ts) us cs ds → es ≡ ds ++ (Negate ∷ []) → Took factor ts us cs es
-as_negated ts us cs ds es head t pushed = record {
+pub as_negated : (ts ws us : List Lexeme) (cs ds es : List Code) → ts ≡ sign Minus ∷ ws → Took operand ws us cs ds → es ≡ ds ++ (Negate ∷ []) → Took factor ts us cs es
+as_negated ts ws us cs ds es head t pushed = record {
   tree = negated t.tree;
   spelt = head ∙ ap (λ l. sign Minus ∷ l) t.spelt;
   coded = pushed ∙ ap (λ l. l ++ (Negate ∷ [])) t.coded ∙ append_assoc cs (part_code operand (sense t.tree)) (Negate ∷ []);
@@ -90,11 +82,11 @@ adds_on : {s : Sign} {c : Code} → Adding s c → (us : List Lexeme) (d : ℕ) 
 adds_on by_plus us d r = (after_join d r us).0
 adds_on by_minus us d r = (after_join d r us).1
 
-pub lost_factor : {s : Sign} {c : Code} (ts us : List Lexeme) (cs ds : List Code) → Multiplying s c → Took product ts us cs ds → us ≡ sign s ∷ rest us → Lost factor (rest us) → Lost product ts
-lost_factor ts us cs ds m t head l = lost_after product ts us cs ds t (λ d r. ap (fits (read d r)) head ∙ multiplies_on m (rest us) d r ∙ l d r)
+pub lost_factor : {s : Sign} {c : Code} (ts us ws : List Lexeme) (cs ds : List Code) → Multiplying s c → Took product ts us cs ds → us ≡ sign s ∷ ws → Lost factor ws → Lost product ts
+lost_factor ts us ws cs ds m t head l = lost_after product ts us cs ds t (λ d r. ap (fits (read d r)) head ∙ multiplies_on m ws d r ∙ l d r)
 
-pub lost_product : {s : Sign} {c : Code} (ts us : List Lexeme) (cs ds : List Code) → Adding s c → Took sum ts us cs ds → us ≡ sign s ∷ rest us → Lost product (rest us) → Lost sum ts
-lost_product ts us cs ds m t head l = lost_after sum ts us cs ds t (λ d r. ap (fits (read d r)) head ∙ adds_on m (rest us) d r ∙ l d r)
+pub lost_product : {s : Sign} {c : Code} (ts us ws : List Lexeme) (cs ds : List Code) → Adding s c → Took sum ts us cs ds → us ≡ sign s ∷ ws → Lost product ws → Lost sum ts
+lost_product ts us ws cs ds m t head l = lost_after sum ts us cs ds t (λ d r. ap (fits (read d r)) head ∙ adds_on m ws d r ∙ l d r)
 
 -- without a minus a factor is an operand
 unsigned : (ts : List Lexeme) (d : ℕ) (r : Side) → is Minus (first_sign ts) ≡ false → fits (due d r) ts ≡ fits (bare d r) ts
@@ -153,3 +145,19 @@ read_closed (Err e) ts us vs cs ds t h q = (q.0, lost_open ts us cs ds t h q.1)
 -- a refusal by the grammar is passed on
 pub refused : {A : Type 0} {e : Refusal} (x : Result A Refusal) → IsErrAnd x (λ y. y ≡ e) → e ≡ NotByGrammar → x ≡ Err NotByGrammar
 refused x by h = let p = err_from_is_err_and x by in p.1 ∙ ap Err (p.2 ∙ h)
+
+-- what stands for None and Some behind `ok_or`
+pub missing : {A : Type 0} (o : Option A) (e : Refusal) → Err e ≡ ok_or o NotByGrammar → (o ≡ None) × (e ≡ NotByGrammar)
+missing None e h = (refl, grind arith)
+missing (Some x) e h = absurd (both_ways true (ap is_ok (sym h)) refl)
+
+pub there : {A : Type 0} (o : Option A) (x : A) → Ok x ≡ ok_or o NotByGrammar → Some x ≡ o
+there None x h = absurd (both_ways true (ap is_ok h) refl)
+there (Some y) x h = grind arith
+
+-- the sign that stands first, if one does, fails a test
+pub no_sign : {P : Sign → Type 0} (test : Sign → Bool) → test Stray ≡ false → (ts : List Lexeme) → IfSome (leading ts) P → ((s : Sign) → P s → test s ≡ false) → test (first_sign ts) ≡ false
+no_sign test e [] h k = e
+no_sign test e (number ds ∷ ts) h k = e
+no_sign test e (name c ∷ ts) h k = e
+no_sign test e (sign s ∷ ts) h k = k s h

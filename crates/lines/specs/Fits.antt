@@ -1,5 +1,5 @@
 -- Which token may stand next in a line, told without a tree. Internal.
-use Rattle.std.specs.Prelude.{ℕ, zero, suc, Bool, true, false, cond, ◌||◌, List, [], ◌∷◌, length, ◌==◌, nat_le}
+use Rattle.std.specs.Prelude.{ℕ, ◌≤◌, zero, suc, Bool, true, false, cond, ◌||◌, List, [], ◌∷◌, length, ◌==◌, nat_le}
 use Rattle.tokens.specs.declared.token.Sign.{Sign}
 use Rattle.tokens.specs.declared.token.Sign.TheVariants.{Letter, Plus, Minus, Times, Over, Opens, Closes, Less, AtMost, Equal, Unequal, AtLeast, More, Also, Arrow, Comma, Colon, Asks, Ignores, Branches, Rejoins, Stray}
 use Rattle.tokens.specs.Tokens.{Lexeme, number, name, sign}
@@ -31,6 +31,10 @@ rank Stray = 21
 
 abbrev pub is : Sign → Sign → Bool
 is a s = rank s == rank a
+
+-- a sign that is more than a letter, and none that is stray
+abbrev pub Known : Sign → Type 0
+Known s = (1 ≤ rank s) × (rank s ≤ 20)
 
 -- the signs that join factors, that join products, and that compare sums
 abbrev pub multiplies : Sign → Bool

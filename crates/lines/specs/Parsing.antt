@@ -1,9 +1,10 @@
 -- What each step of the parser comes to. Internal.
-use Rattle.std.specs.Prelude.{◌≡◌, ℕ, ◌+◌, ◌≤◌, true, false, List, [], ◌∷◌, length, Ok, Err, Option, Result}
-use Rattle.tokens.specs.declared.token.Sign.TheVariants.{Closes}
+use Rattle.std.specs.Prelude.{◌≡◌, ℕ, Bool, true, false, List, [], ◌∷◌, Ok, Err, Option, Result, Some, None, IfSome, MatchBool, MatchOption}
+use Rattle.tokens.specs.declared.token.Sign.{Sign}
+use Rattle.tokens.specs.declared.token.Sign.TheVariants.{Ignores}
 use Rattle.tokens.specs.declared.reader.Reader.{Reader}
 use Rattle.tokens.specs.Tokens.{Lexeme, name, sign, is_name}
-use Rattle.tokens.specs.Readers.{unread, first_sign}
+use Rattle.tokens.specs.Readers.{unread, leading, first_sign}
 use Rattle.expr.specs.declared.code.Code.{Code}
 use Rattle.rules.specs.declared.draft.Draft.{Draft}
 use Rattle.book.specs.declared.form.Form.{Form}
@@ -28,10 +29,6 @@ left p = unread p.reader
 abbrev pub laid : Parser → List Code
 laid p = code_in p.codes
 
--- each token to come may take a code place
-abbrev pub Roomy : Parser → Type 0
-Roomy p = length (laid p) + length (left p) ≤ 200
-
 -- P of what was read, or a refusal by the grammar, and Q
 abbrev pub Read : {A : Type 0} → (A → Type 0) → Type 0 → Result A Refusal → Type 0
 Read P Q (Ok x) = P x
@@ -40,8 +37,16 @@ Read P Q (Err e) = (e ≡ NotByGrammar) × Q
 abbrev pub ReadsPart : Part → Result (Unit {0}) Refusal → Parser → Parser → Type 0
 ReadsPart k r p q = Read (λ _. Took k (left p) (left q) (laid p) (laid q) × Stops k (first_sign (left q))) (Lost k (left p)) r
 
-abbrev pub ReadsClose : Result (Unit {0}) Refusal → Reader → Reader → Type 0
-ReadsClose r p q = Read (λ _. unread p ≡ sign Closes ∷ unread q) (is Closes (first_sign (unread p)) ≡ false) r
+-- the sign s was taken, or else does not stand first
+abbrev pub TakesSign : Sign → Bool → List Lexeme → List Lexeme → Type 0
+TakesSign s taken ts us = MatchBool taken (ts ≡ sign s ∷ us) ((us ≡ ts) × (is s (first_sign ts) ≡ false))
+
+-- a sign was taken by what it means, or else the one that stands first, if one does, means nothing
+abbrev pub TakesAs : {A : Type 0} → (Sign → Option A → Type 0) → Option A → List Lexeme → List Lexeme → Type 0
+TakesAs means r ts us = MatchOption r ((us ≡ ts) × IfSome (leading ts) (λ s. means s None)) (λ x. (s : Sign) × means s (Some x) × (ts ≡ sign s ∷ us))
+
+abbrev pub ReadsSign : Sign → Result (Unit {0}) Refusal → List Lexeme → List Lexeme → Type 0
+ReadsSign s r ts us = Read (λ _. ts ≡ sign s ∷ us) (is s (first_sign ts) ≡ false) r
 
 abbrev pub ReadsLetter : Result ℕ Refusal → Reader → Reader → Type 0
 ReadsLetter r p q = Read (λ b. TookLetter (unread p) (unread q) b) (starts_glyph (unread p) ≡ false) r
@@ -61,11 +66,15 @@ ReadsSides r p q = Read (λ f. TookSides (unread p) (unread q) f.0 f.1) (fits (f
 abbrev pub ReadsBehind : Result (Option Form) Refusal → Reader → Reader → Type 0
 ReadsBehind r p q = Read (λ f. TookBehind (unread p) (unread q) f) (fits (framed middle) (unread p) ≡ false) r
 
+-- no rule begins with these tokens: no line does that does not ignore letters
+abbrev pub Unruled : List Lexeme → Type 0
+Unruled ts = is Ignores (first_sign ts) ≡ false → fits begins ts ≡ false
+
 abbrev pub ReadsNumber : Result ℕ Refusal → Reader → Reader → Type 0
-ReadsNumber r p q = Read (λ n. TookNumber (unread p) (unread q) n) (fits begins (unread p) ≡ false) r
+ReadsNumber r p q = Read (λ n. TookNumber (unread p) (unread q) n) (Unruled (unread p)) r
 
 abbrev pub ReadsHead : Result Head Refusal → Reader → Reader → Type 0
-ReadsHead r p q = Read (λ h. TookHead (unread p) (unread q) h) (fits begins (unread p) ≡ false) r
+ReadsHead r p q = Read (λ h. TookHead (unread p) (unread q) h) (Unruled (unread p)) r
 
 abbrev pub ReadsAsked : Result (Unit {0}) Refusal → Parser → Parser → Type 0
 ReadsAsked r p q = Read (λ _. TookAsked (left p) (left q) (laid p) (laid q)) (fits (framed last) (left p) ≡ false) r
@@ -85,5 +94,5 @@ ReadsSuccessor r p q = Read (λ x. TookPieces (left p) [] (laid p) (laid q) (pie
 abbrev pub ReadsLetters : Result (Row ℕ 200) Refusal → Reader → Type 0
 ReadsLetters r p = Read (λ l. TookLetters (unread p) [] (letters_in l)) (fits (ignores false) (unread p) ≡ false) r
 
-abbrev pub ReadsRule : Result Draft Refusal → Parser → Type 0
-ReadsRule r p = Read (λ d. (t : RuleTree) × (spells_line (ruling t) ≡ left p) × (rule_sense t ≡ rule_of d)) (fits begins (left p) ≡ false) r
+abbrev pub ReadsRule : Result Draft Refusal → Reader → Type 0
+ReadsRule r p = Read (λ d. (t : RuleTree) × (spells_line (ruling t) ≡ unread p) × (rule_sense t ≡ rule_of d)) (Unruled (unread p)) r

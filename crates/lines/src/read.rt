@@ -1,16 +1,14 @@
 // Reads a line of a book.
-ghost use Rattle.std.specs.Prelude.{◌≡◌, ◌≤◌, false, [], length};
-ghost use Rattle.tokens.specs.declared.token.Sign.TheVariants.{Ignores};
-ghost use Rattle.tokens.specs.Readers.{unread, first_sign};
-ghost use Rattle.lines.specs.Fits.{is};
-ghost use Rattle.lines.specs.Parsing.{left, laid, Roomy, ReadsLetters, ReadsRule};
+ghost use Rattle.std.specs.Prelude.{◌≤◌, length};
+ghost use Rattle.tokens.specs.Readers.{unread};
+ghost use Rattle.lines.specs.Parsing.{ReadsLetters, ReadsRule};
 ghost use Rattle.lines.specs.Reading.{Reads};
 
 use super::letters::Letters;
 use super::line::Line;
 use super::parser::Parser;
 use super::parser::forms::head;
-use super::parser::single::{ended, letter};
+use super::parser::single::{ended, letter, takes};
 use expr::code::Code;
 use rules::codes::Codes;
 use rules::draft::Draft;
@@ -36,24 +34,24 @@ fn letters(reader: &mut Reader) -> Result<Letters, Refusal>
     Ok(letters)
 }
 
-impl<'a> Parser<'a> {
-    // A rule, to the end of the line.
-    fn rule(&mut self) -> Result<Draft, Refusal>
-        requires room { Roomy self.old }
-        requires none { laid self.old ≡ [] }
-        requires other { is Ignores (first_sign (left self.old)) ≡ false }
-        ensures { ReadsRule result self.old }
-    {
-        let head = head(&mut self.reader)?;
-        let guard = self.guarded()?;
-        let pieces = self.successor()?;
-        Ok(Draft {
-            head,
-            guard,
-            codes: self.codes,
-            pieces,
-        })
-    }
+// A rule, to the end of the line.
+fn rule(reader: &mut Reader) -> Result<Draft, Refusal>
+    requires { length (unread reader.old) ≤ 200 }
+    ensures { ReadsRule result reader.old }
+{
+    let head = head(reader)?;
+    let mut parser = Parser {
+        reader: *reader,
+        codes: Codes::new(Code::Blank),
+    };
+    let guard = parser.guarded()?;
+    let pieces = parser.successor()?;
+    Ok(Draft {
+        head,
+        guard,
+        codes: parser.codes,
+        pieces,
+    })
 }
 
 /// What a line says, or why it cannot be read.
@@ -63,19 +61,12 @@ pub fn read(line: &[u8]) -> Result<Line, Refusal>
     if line.len() > LONGEST {
         return Err(Refusal::TooLong);
     }
-    let mut parser = Parser {
-        reader: Reader::new(line),
-        codes: Codes::new(Code::Blank),
-    };
-    match parser.reader.sign() {
-        Sign::Ignores => {
-            parser.reader.skip();
-            let ignored = letters(&mut parser.reader)?;
-            Ok(Line::Ignores(ignored))
-        }
-        _ => {
-            let draft = parser.rule()?;
-            Ok(Line::Rule(draft))
-        }
+    let mut reader = Reader::new(line);
+    if takes(&mut reader, Sign::Ignores) {
+        let ignored = letters(&mut reader)?;
+        Ok(Line::Ignores(ignored))
+    } else {
+        let draft = rule(&mut reader)?;
+        Ok(Line::Rule(draft))
     }
 }

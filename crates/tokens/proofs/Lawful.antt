@@ -1,24 +1,13 @@
 -- Internal: the laws of the tokens of every line, and the tokens of a few.
 use Rattle.std.proofs.Common.{◌≡◌, ℕ, suc, ◌≤◌, Bool, true, false, cond, ◌&&◌, List, [], ◌∷◌, ◌++◌, length, sym, refl, ap, ◌∙◌, append_assoc, arith, length-append}
+use Rattle.std.proofs.lemmas.Bool.{and_parts}
 use Rattle.std.proofs.lemmas.Bool.Decides.{nat_tests}
 use Rattle.tokens.specs.Tokens.{Lexeme, number, name, sign, is_space, is_digit, is_name, pairs, paired, lone, single, joined, tokens}
 use Rattle.tokens.specs.Laws.{Laws}
-use Rattle.tokens.proofs.Lexing.{digit_alone, digit_ends, both_digits, unjoined, spaced}
-
--- a line that begins with a digit has a number first
-number_first : (b : ℕ) (bs : List ℕ) → is_digit b ≡ true → (ds : List ℕ) × (ts : List Lexeme) × (tokens (b ∷ bs) ≡ number ds ∷ ts)
-number_first b [] d = (b ∷ [], [], digit_alone b d)
-number_first b (c ∷ bs) d = go (is_digit c) refl (number_first c bs) where
-  go : (x : Bool) → is_digit c ≡ x → (is_digit c ≡ true → (ds : List ℕ) × (ts : List Lexeme) × (tokens (c ∷ bs) ≡ number ds ∷ ts)) → (ds : List ℕ) × (ts : List Lexeme) × (tokens (b ∷ c ∷ bs) ≡ number ds ∷ ts)
-  go true e next = let n = next e in (b ∷ n.0, n.1, both_digits b c bs d e ∙ ap (joined b) n.2)
-  go false e next = (b ∷ [], tokens (c ∷ bs), digit_ends b c bs d e)
+use Rattle.tokens.proofs.Lexing.{by_digits, unjoined, spaced}
 
 joined_before : (b : ℕ) (xs ys ts : List Lexeme) (ds : List ℕ) → xs ≡ number ds ∷ ts → joined b (xs ++ ys) ≡ joined b xs ++ ys
 joined_before b xs ys ts ds e = rw e
-
-both : (x y : Bool) → (x && y) ≡ true → y ≡ true
-both true y e = e
-both false y e = let z : ◌≡◌ {A = ℕ} 0 1 = cc in absurd (omega arith)
 
 -- what stands behind goes along, whichever way the first two bytes are read
 along : (x y : Bool) (t : Lexeme) (ss js us vs zs js' us' vs' : List Lexeme) → (x ≡ true → js' ≡ js ++ zs) → us' ≡ us ++ zs → vs' ≡ vs ++ zs → cond x js' (cond y (t ∷ us') (ss ++ vs')) ≡ cond x js (cond y (t ∷ us) (ss ++ vs)) ++ zs
@@ -36,7 +25,7 @@ parted (b ∷ c ∷ xs) ys =
     let ih = parted (c ∷ xs) ys in
     along (is_digit b && is_digit c) (pairs b c) (sign (paired b c)) (single b) (joined b (tokens (c ∷ xs))) (tokens xs) (tokens (c ∷ xs)) (tokens ys)
     (joined b (tokens (c ∷ (xs ++ (32 ∷ ys))))) (tokens (xs ++ (32 ∷ ys))) (tokens (c ∷ (xs ++ (32 ∷ ys))))
-    (λ e. let n = number_first c xs (both (is_digit b) (is_digit c) e) in ap (joined b) ih ∙ joined_before b (tokens (c ∷ xs)) (tokens ys) n.1 n.0 n.2)
+    (λ e. ap (joined b) ih ∙ joined_before b (tokens (c ∷ xs)) (tokens ys) _ _ (by_digits c xs (and_parts (is_digit b) (is_digit c) e).1))
     (parted xs ys) ih
 
 one_at_most : (x y z : Bool) (t u v : Lexeme) → length (cond x [] (cond y (t ∷ []) (cond z (u ∷ []) (v ∷ [])))) ≤ 1

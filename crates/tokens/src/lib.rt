@@ -2,7 +2,7 @@
 #![tactic(auto)]
 
 pub mod reader;
-pub mod signs;
+mod signs;
 pub mod token;
 
 #[cfg(test)]
@@ -13,9 +13,9 @@ mod tests {
     #[test]
     fn walks_a_line(rt: HostRuntime) {
         let mut reader = Reader::new(b" 12x-> ");
-        assert!(rt; matches!(reader.next(), Token::Number(b"12")));
-        assert!(rt; matches!(reader.next(), Token::Name(b"x")));
-        assert!(rt; matches!(reader.next(), Token::Sign(b"->")));
-        assert!(rt; matches!(reader.next(), Token::End));
+        assert!(rt; matches!(reader.next(), Some(Token::Number(b"12"))));
+        assert!(rt; matches!(reader.next(), Some(Token::Name(b"x"))));
+        assert!(rt; matches!(reader.next(), Some(Token::Sign(b"->"))));
+        assert!(rt; reader.next().is_none());
     }
 }

@@ -3,7 +3,8 @@ ghost use Rattle.std.specs.Prelude.{◌≤◌, length};
 
 pub mod lex;
 
-/// Reads a line token by token.
+/// Reads a line token by token. It keeps the whole line and a place in it, and not only what is left: its contract says at
+/// which place of the line each token stands.
 #[derive(Clone, Copy)]
 pub struct Reader<'a> {
     line: &'a [u8],

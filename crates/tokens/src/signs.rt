@@ -60,12 +60,14 @@ fn lone_sign(byte: u8) -> Sign
 }
 
 /// The sign that a token's part is; `Stray` where it is none.
-pub fn sign_of(part: &[u8]) -> Sign
-    ensures { result ≡ sign_of part.now }
-{
-    match part {
-        [b] => lone_sign(*b),
-        [b, c] => pair_sign(*b, *c),
-        _ => Sign::Stray,
+impl From<&[u8]> for Sign {
+    ghost from_gives = { λ part sign. sign ≡ sign_of part.now };
+
+    fn from(part: &[u8]) -> Sign {
+        match part {
+            [b] => lone_sign(*b),
+            [b, c] => pair_sign(*b, *c),
+            _ => Sign::Stray,
+        }
     }
 }

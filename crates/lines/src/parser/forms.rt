@@ -1,14 +1,11 @@
 // The head of a rule: its printed number and its forms.
-ghost use Rattle.std.specs.Prelude.{◌≡◌, ◌<◌, true, false, [], ◌∷◌, ◌++◌, length};
-ghost use Rattle.tokens.specs.declared.token.Sign.TheVariants.{Ignores};
+ghost use Rattle.std.specs.Prelude.{◌≡◌, ◌<◌, true, [], ◌∷◌, ◌++◌, length};
 ghost use Rattle.tokens.specs.Tokens.{is_name};
-ghost use Rattle.tokens.specs.Readers.{unread, first_sign};
 ghost use Rattle.book.specs.Records.{form_of};
-ghost use Rattle.lines.specs.Fits.{is};
 ghost use Rattle.lines.specs.Parsing.{ReadsNames, ReadsForm, ReadsSides, ReadsBehind, ReadsNumber, ReadsHead};
 
 use super::MOST;
-use super::single::{close, letter, name};
+use super::single::{expect, letter, name, takes};
 use book::form::Form;
 use rows::row::Row;
 use rules::head::Head;
@@ -39,15 +36,14 @@ fn names(reader: &mut Reader, bare: Form) -> Result<Form, Refusal>
 {
     let first = name(reader)?;
     let mut form = named(bare, first);
-    while let Sign::Comma = reader.sign() {
+    while takes(reader, Sign::Comma) {
         if form.names.len() == usize::from(MOST) {
             return Err(Refusal::NotByGrammar);
         }
-        reader.skip();
         let next = name(reader)?;
         form = named(form, next);
     }
-    close(reader)?;
+    expect(reader, Sign::Closes)?;
     Ok(form)
 }
 
@@ -60,12 +56,10 @@ fn form(reader: &mut Reader) -> Result<Form, Refusal>
         letter,
         names: Row::new(0),
     };
-    match reader.sign() {
-        Sign::Opens => {
-            reader.skip();
-            names(reader, bare)
-        }
-        _ => Ok(bare),
+    if takes(reader, Sign::Opens) {
+        names(reader, bare)
+    } else {
+        Ok(bare)
     }
 }
 
@@ -74,13 +68,11 @@ fn sides(reader: &mut Reader) -> Result<(Option<Form>, Form), Refusal>
     ensures { ReadsSides result reader.old reader.new }
 {
     let first = form(reader)?;
-    match reader.sign() {
-        Sign::Less => {
-            reader.skip();
-            let predecessor = form(reader)?;
-            Ok((Some(first), predecessor))
-        }
-        _ => Ok((None, first)),
+    if takes(reader, Sign::Less) {
+        let predecessor = form(reader)?;
+        Ok((Some(first), predecessor))
+    } else {
+        Ok((None, first))
     }
 }
 
@@ -88,39 +80,28 @@ fn sides(reader: &mut Reader) -> Result<(Option<Form>, Form), Refusal>
 fn behind(reader: &mut Reader) -> Result<Option<Form>, Refusal>
     ensures { ReadsBehind result reader.old reader.new }
 {
-    match reader.sign() {
-        Sign::More => {
-            reader.skip();
-            let right = form(reader)?;
-            Ok(Some(right))
-        }
-        _ => Ok(None),
+    if takes(reader, Sign::More) {
+        let right = form(reader)?;
+        Ok(Some(right))
+    } else {
+        Ok(None)
     }
 }
 
 // The printed number and its colon.
 fn printed(reader: &mut Reader) -> Result<u32, Refusal>
-    requires { is Ignores (first_sign (unread reader.old)) ≡ false }
     ensures { ReadsNumber result reader.old reader.new }
 {
-    let Token::Number(digits) = reader.next() else {
+    let Token::Number(digits) = reader.next().ok_or(Refusal::NotByGrammar)? else {
         return Err(Refusal::NotByGrammar);
     };
-    let Some(n) = number(digits) else {
-        return Err(Refusal::NotByGrammar);
-    };
-    match reader.sign() {
-        Sign::Colon => {
-            reader.skip();
-            Ok(n)
-        }
-        _ => Err(Refusal::NotByGrammar),
-    }
+    let n = number(digits).ok_or(Refusal::NotByGrammar)?;
+    expect(reader, Sign::Colon)?;
+    Ok(n)
 }
 
 /// What stands before the guard of a rule.
 pub(crate) fn head(reader: &mut Reader) -> Result<Head, Refusal>
-    requires { is Ignores (first_sign (unread reader.old)) ≡ false }
     ensures { ReadsHead result reader.old reader.new }
 {
     let printed = printed(reader)?;

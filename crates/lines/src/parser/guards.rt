@@ -2,9 +2,10 @@
 ghost use Rattle.std.specs.Prelude.{◌≡◌, false, MatchOption};
 ghost use Rattle.book.specs.Grammar.{Part, relation_sign};
 ghost use Rattle.lines.specs.Fits.{compares};
-ghost use Rattle.lines.specs.Parsing.{Roomy, ReadsPart, ReadsAsked, ReadsGuard};
+ghost use Rattle.lines.specs.Parsing.{ReadsPart, ReadsAsked, ReadsGuard};
 
 use super::Parser;
+use super::single::{expect, take_as, takes};
 use expr::code::{Code, Relation};
 use rules::refusal::Refusal;
 use tokens::token::Sign;
@@ -27,14 +28,10 @@ fn relation(by: Sign) -> Option<Relation>
 impl<'a> Parser<'a> {
     // Two sums, and the sign that compares them.
     fn comparison(&mut self) -> Result<(), Refusal>
-        requires { Roomy self.old }
         ensures { ReadsPart Part.comparison result self.old self.new }
     {
         self.sum()?;
-        let Some(by) = relation(self.reader.sign()) else {
-            return Err(Refusal::NotByGrammar);
-        };
-        self.reader.skip();
+        let by = take_as(&mut self.reader, relation).ok_or(Refusal::NotByGrammar)?;
         self.sum()?;
         self.codes.push(Code::Compare(by));
         Ok(())
@@ -42,12 +39,10 @@ impl<'a> Parser<'a> {
 
     // Comparisons joined by `&`.
     fn guard(&mut self) -> Result<(), Refusal>
-        requires { Roomy self.old }
         ensures { ReadsPart Part.guard result self.old self.new }
     {
         self.comparison()?;
-        while let Sign::Also = self.reader.sign() {
-            self.reader.skip();
+        while takes(&mut self.reader, Sign::Also) {
             self.comparison()?;
         }
         Ok(())
@@ -55,28 +50,21 @@ impl<'a> Parser<'a> {
 
     // `?` and a guard, if there are any.
     fn asked(&mut self) -> Result<(), Refusal>
-        requires { Roomy self.old }
         ensures { ReadsAsked result self.old self.new }
     {
-        match self.reader.sign() {
-            Sign::Asks => {
-                self.reader.skip();
-                self.guard()
-            }
-            _ => Ok(()),
+        if takes(&mut self.reader, Sign::Asks) {
+            self.guard()
+        } else {
+            Ok(())
         }
     }
 
     /// A guard if there is one, and the arrow: how many code places are the guard's.
     pub(crate) fn guarded(&mut self) -> Result<u8, Refusal>
-        requires { Roomy self.old }
         ensures { ReadsGuard result self.old self.new }
     {
         self.asked()?;
-        let Sign::Arrow = self.reader.sign() else {
-            return Err(Refusal::NotByGrammar);
-        };
-        self.reader.skip();
+        expect(&mut self.reader, Sign::Arrow)?;
         Ok(self.codes.len() as u8)
     }
 }

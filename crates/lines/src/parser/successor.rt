@@ -2,9 +2,9 @@
 ghost use Rattle.std.specs.Prelude.{◌≡◌, false, [], ◌≢◌};
 ghost use Rattle.tokens.specs.Readers.{first_sign};
 ghost use Rattle.lines.specs.Fits.{is_bracket_sign};
-ghost use Rattle.lines.specs.Parsing.{left, Roomy, ReadsArguments, ReadsPiece, ReadsSuccessor};
+ghost use Rattle.lines.specs.Parsing.{left, ReadsArguments, ReadsPiece, ReadsSuccessor};
 
-use super::single::{close, ended, letter};
+use super::single::{ended, expect, letter, takes};
 use super::{MOST, Parser};
 use rules::piece::Piece;
 use rules::pieces::Pieces;
@@ -12,32 +12,29 @@ use rules::refusal::Refusal;
 use tokens::token::Sign;
 
 impl<'a> Parser<'a> {
-    // One to three sums in parentheses, if there are any: how many.
+    // One to three sums in parentheses, if there are any: how many. `names` reads its list in the same way, but from a reader
+    // into a form: one function for both would take a closure that changes what it captures, of which a proof knows nothing.
     fn arguments(&mut self) -> Result<u8, Refusal>
-        requires { Roomy self.old }
         ensures { ReadsArguments result self.old self.new }
     {
-        let Sign::Opens = self.reader.sign() else {
+        if !takes(&mut self.reader, Sign::Opens) {
             return Ok(0);
-        };
-        self.reader.skip();
+        }
         self.sum()?;
         let mut count = 1;
-        while let Sign::Comma = self.reader.sign() {
+        while takes(&mut self.reader, Sign::Comma) {
             if count == MOST {
                 return Err(Refusal::NotByGrammar);
             }
-            self.reader.skip();
             self.sum()?;
             count += 1;
         }
-        close(&mut self.reader)?;
+        expect(&mut self.reader, Sign::Closes)?;
         Ok(count)
     }
 
     // A letter with its arguments.
     fn grown(&mut self) -> Result<Piece, Refusal>
-        requires room { Roomy self.old }
         requires some { left self.old ≢ [] }
         requires plain { is_bracket_sign (first_sign (left self.old)) ≡ false }
         ensures { ReadsPiece result self.old self.new }
@@ -55,34 +52,28 @@ impl<'a> Parser<'a> {
 
     // A bracket, or a letter with its arguments.
     fn piece(&mut self) -> Result<Piece, Refusal>
-        requires room { Roomy self.old }
-        requires some { left self.old ≢ [] }
+        requires { left self.old ≢ [] }
         ensures { ReadsPiece result self.old self.new }
     {
-        match self.reader.sign() {
-            Sign::Branches => {
-                self.reader.skip();
-                Ok(Piece {
-                    letter: b'[',
-                    count: 0,
-                    places: 0,
-                })
-            }
-            Sign::Rejoins => {
-                self.reader.skip();
-                Ok(Piece {
-                    letter: b']',
-                    count: 0,
-                    places: 0,
-                })
-            }
-            _ => self.grown(),
+        if takes(&mut self.reader, Sign::Branches) {
+            return Ok(Piece {
+                letter: b'[',
+                count: 0,
+                places: 0,
+            });
         }
+        if takes(&mut self.reader, Sign::Rejoins) {
+            return Ok(Piece {
+                letter: b']',
+                count: 0,
+                places: 0,
+            });
+        }
+        self.grown()
     }
 
     /// Brackets and letters to the end of the line.
     pub(crate) fn successor(&mut self) -> Result<Pieces, Refusal>
-        requires { Roomy self.old }
         ensures { ReadsSuccessor result self.old self.new }
     {
         let mut pieces = Pieces::new(Piece::BLANK);

@@ -3,13 +3,12 @@ ghost use Rattle.std.specs.Prelude.{◌≡◌, false, MatchOption};
 ghost use Rattle.book.specs.Grammar.{Part};
 ghost use Rattle.lines.specs.Fits.{multiplies, adds};
 ghost use Rattle.lines.specs.Parts.{Multiplying, Adding};
-ghost use Rattle.lines.specs.Parsing.{Roomy, ReadsPart};
+ghost use Rattle.lines.specs.Parsing.{ReadsPart};
 
 use super::Parser;
-use super::single::close;
+use super::single::{expect, take_as, takes};
 use expr::code::Code;
 use rules::refusal::Refusal;
-use tokens::signs::sign_of;
 use tokens::token::{Sign, Token};
 use word::numbers::number;
 
@@ -24,7 +23,8 @@ fn multiplying(by: Sign) -> Option<Code>
     }
 }
 
-// The code of a sign that joins products.
+// The code of a sign that joins products. It stays apart from `multiplying`: which signs join is what tells a sum from a
+// product.
 fn adding(by: Sign) -> Option<Code>
     ensures { MatchOption result (adds by ≡ false) (λ code. Adding by code) }
 {
@@ -39,58 +39,51 @@ impl<'a> Parser<'a> {
     // A number, a name or a sum in parentheses.
     #[cycle(factor_operand_product_sum)]
     fn operand(&mut self) -> Result<(), Refusal>
-        requires { Roomy self.old }
         ensures { ReadsPart Part.operand result self.old self.new }
     {
         match self.reader.next() {
-            Token::Number(digits) => {
-                let Some(n) = number(digits) else {
-                    return Err(Refusal::NotByGrammar);
-                };
+            Some(Token::Number(digits)) => {
+                let n = number(digits).ok_or(Refusal::NotByGrammar)?;
                 self.codes.push(Code::Number(n));
                 Ok(())
             }
-            Token::Name(part) => {
+            Some(Token::Name(part)) => {
                 self.codes.push(Code::Name(part[0]));
                 Ok(())
             }
-            Token::Sign(part) => match sign_of(part) {
+            Some(Token::Sign(part)) => match Sign::from(part) {
                 Sign::Opens => {
                     self.sum()?;
-                    close(&mut self.reader)
+                    expect(&mut self.reader, Sign::Closes)
                 }
                 _ => Err(Refusal::NotByGrammar),
             },
-            Token::End => Err(Refusal::NotByGrammar),
+            None => Err(Refusal::NotByGrammar),
         }
     }
 
     // An operand, negated behind a minus.
     #[cycle(factor_operand_product_sum)]
     fn factor(&mut self) -> Result<(), Refusal>
-        requires { Roomy self.old }
         ensures { ReadsPart Part.factor result self.old self.new }
     {
-        match self.reader.sign() {
-            Sign::Minus => {
-                self.reader.skip();
-                self.operand()?;
-                self.codes.push(Code::Negate);
-                Ok(())
-            }
-            _ => self.operand(),
+        if takes(&mut self.reader, Sign::Minus) {
+            self.operand()?;
+            self.codes.push(Code::Negate);
+            Ok(())
+        } else {
+            self.operand()
         }
     }
 
-    // Factors joined by `*` or `/`.
+    // Factors joined by `*` or `/`. `sum` joins products in the same way; the two stay apart, since one calls the other, as in
+    // the grammar.
     #[cycle(factor_operand_product_sum)]
     fn product(&mut self) -> Result<(), Refusal>
-        requires { Roomy self.old }
         ensures { ReadsPart Part.product result self.old self.new }
     {
         self.factor()?;
-        while let Some(code) = multiplying(self.reader.sign()) {
-            self.reader.skip();
+        while let Some(code) = take_as(&mut self.reader, multiplying) {
             self.factor()?;
             self.codes.push(code);
         }
@@ -100,12 +93,10 @@ impl<'a> Parser<'a> {
     // Products joined by `+` or `-`.
     #[cycle(factor_operand_product_sum)]
     pub(super) fn sum(&mut self) -> Result<(), Refusal>
-        requires { Roomy self.old }
         ensures { ReadsPart Part.sum result self.old self.new }
     {
         self.product()?;
-        while let Some(code) = adding(self.reader.sign()) {
-            self.reader.skip();
+        while let Some(code) = take_as(&mut self.reader, adding) {
             self.product()?;
             self.codes.push(code);
         }

@@ -1,35 +1,29 @@
-use Rattle.std.proofs.Common.{false, ◌∷◌, sym, refl, ap, ◌∙◌, arith}
+use Rattle.std.proofs.Common.{◌≡◌, false, sym, ap, ◌∙◌, subst, arith}
 use Rattle.tokens.specs.declared.token.Sign.TheVariants.{Ignores}
-use Rattle.tokens.specs.Tokens.{sign}
-use Rattle.tokens.specs.Readers.{unread}
+use Rattle.tokens.specs.Readers.{unread, first_sign}
 use Rattle.rules.specs.Drafts.{rule_of}
 use Rattle.lines.specs.Records.{letters_in}
-use Rattle.lines.specs.Fits.{begins, ignores, fits}
-use Rattle.lines.proofs.Signs.{headed}
+use Rattle.lines.specs.Fits.{is, begins, fits}
 use Rattle.lines.proofs.Steps.{refused}
 use Rattle.lines.proofs.Ignoring.{unspelt, says_rule, says_letters}
 use Rattle.lines.proofs.read.read.Goals as goal
 
-pub returns-in_err-ignored-in-Ignores : goal.returns-in_err-ignored-in-Ignores
-returns-in_err-ignored-in-Ignores c =
-    let ts = unread c.new.result in
-    let lost = ap (fits begins) (sym c.new.ensures.whole ∙ headed ts Ignores (sym c.sign.ensures ∙ c.in-Ignores.is) refl) ∙ ap (fits (ignores false)) (sym c.skip.ensures.whole) ∙ c.in_err-ignored-in-Ignores.ensures.1 in
-    rw (refused c.from_residual.result c.from_residual.ensures.1 c.in_err-ignored-in-Ignores.ensures.0) (omega arith, unspelt c.args.line.now lost)
+pub returns-in_err-ignored : goal.returns-in_err-ignored
+returns-in_err-ignored c =
+    let lost = ap (fits begins) (sym c.new-reader.ensures.whole ∙ c.if-takes.ensures.took) ∙ c.in_err-ignored.ensures.1 in
+    rw (refused c.from_residual.result c.from_residual.ensures.1 c.in_err-ignored.ensures.0) (omega arith, unspelt c.args.line.now lost)
 
-pub returns-in_err-draft-in_default : goal.returns-in_err-draft-in_default
-returns-in_err-draft-in_default c =
-    rw (refused c.from_residual-in_err-draft-in_default.result c.from_residual-in_err-draft-in_default.ensures.1 c.in_err-draft-in_default.ensures.0)
-    (omega arith, unspelt c.args.line.now (ap (fits begins) (sym c.new.ensures.whole) ∙ c.in_err-draft-in_default.ensures.1))
+pub returns-in_err-draft : goal.returns-in_err-draft
+returns-in_err-draft c =
+    let e = c.if-takes.ensures.took in
+    let lost = ap (fits begins) (sym c.new-reader.ensures.whole ∙ sym e.0) ∙ c.in_err-draft.ensures.1 (subst (λ l. is Ignores (first_sign l) ≡ false) (sym e.0) e.1) in
+    rw (refused c.from_residual-in_err-draft.result c.from_residual-in_err-draft.ensures.1 c.in_err-draft.ensures.0) (omega arith, unspelt c.args.line.now lost)
 
-pub returns-in_ok-ignored-in-Ignores : goal.returns-in_ok-ignored-in-Ignores
-returns-in_ok-ignored-in-Ignores c =
-    let ts = unread c.new.result in (
-      omega arith,
-      says_letters c.args.line.now ts (unread c.skip.new.self) (letters_in c.in_ok-ignored-in-Ignores.ignored) c.new.ensures.whole
-          (headed ts Ignores (sym c.sign.ensures ∙ c.in-Ignores.is) refl ∙ ap (λ l. sign Ignores ∷ l) (sym c.skip.ensures.whole)) c.in_ok-ignored-in-Ignores.ensures,
-    )
+pub returns-in_ok-ignored : goal.returns-in_ok-ignored
+returns-in_ok-ignored c =
+    (omega arith, says_letters c.args.line.now (unread c.new-reader.result) (unread c.takes.new.reader) (letters_in c.in_ok-ignored.ignored) c.new-reader.ensures.whole c.if-takes.ensures.took c.in_ok-ignored.ensures)
 
-pub returns-in_ok-draft-in_default : goal.returns-in_ok-draft-in_default
-returns-in_ok-draft-in_default c =
-    let t = c.in_ok-draft-in_default.ensures in
-    (omega arith, says_rule c.args.line.now (unread c.new.result) t.0 (rule_of c.in_ok-draft-in_default.draft) c.new.ensures.whole t.1 t.2)
+pub returns-in_ok-draft : goal.returns-in_ok-draft
+returns-in_ok-draft c =
+    let t = c.in_ok-draft.ensures in
+    (omega arith, says_rule c.args.line.now (unread c.takes.new.reader) t.0 (rule_of c.in_ok-draft.draft) (c.if-takes.ensures.took.0 ∙ c.new-reader.ensures.whole) t.1 t.2)

@@ -1,7 +1,5 @@
-use Rattle.std.proofs.Common.{◌-◌, map, length, refl, ap, ◌∙◌, arith, length-append}
+use Rattle.std.proofs.Common.{◌-◌, refl}
 use Rattle.tokens.specs.Readers.{unread}
-use Rattle.expr.specs.Codes.{codes_of}
-use Rattle.book.specs.Meanings.{sense}
 use Rattle.lines.specs.Parsing.{left, laid}
 use Rattle.lines.proofs.Steps.{refused}
 use Rattle.lines.proofs.Growing.{no_piece, read_grown}
@@ -9,16 +7,10 @@ use Rattle.lines.proofs.parser.Parser.grown.Goals as goal
 
 pub returns-in_err-letter : goal.returns-in_err-letter
 returns-in_err-letter c =
-    rw (refused c.from_residual.result c.from_residual.ensures.1 c.in_err-letter.ensures.0)
-    (refl, no_piece (left c.args.self.now) c.requires.some c.requires.plain c.in_err-letter.ensures.1)
-
-pub overflow_sub-places : goal.overflow_sub-places
-overflow_sub-places c =
-    let a = c.in_ok-count.ensures in
-    let k = ap length a.coded ∙ length-append (laid c.args.self.now) (codes_of (map sense a.trees)) in
-    omega arith
+    rw (refused c.from_residual.result c.from_residual.ensures.1 c.in_err-letter.ensures.read.0)
+    (refl, no_piece (left c.args.self.now) c.requires.some c.requires.plain c.in_err-letter.ensures.read.1)
 
 pub returns : goal.returns
 returns c =
-    read_grown _ (left c.args.self.now) (unread c.letter.new.reader) (left c.arguments.new.self) (laid c.args.self.now) (laid c.arguments.new.self) c.in_ok-letter.ensures c.in_ok-count.ensures
+    read_grown _ (left c.args.self.now) (unread c.letter.new.reader) (left c.arguments.new.self) (laid c.args.self.now) (laid c.arguments.new.self) c.in_ok-letter.ensures.read c.in_ok-count.ensures
     (λ i. c.len.ensures i - c.len-before.ensures i)

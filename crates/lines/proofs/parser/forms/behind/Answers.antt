@@ -1,17 +1,14 @@
-use Rattle.std.proofs.Common.{sym, refl, ◌∙◌, subst, arith}
-use Rattle.tokens.specs.declared.token.Sign.TheVariants.{More}
+use Rattle.std.proofs.Common.{None, sym, subst}
 use Rattle.tokens.specs.Readers.{unread}
-use Rattle.lines.specs.Parts.{TookForm}
-use Rattle.lines.proofs.Signs.{unlike, headed}
+use Rattle.lines.specs.Parts.{TookBehind}
 use Rattle.lines.proofs.Forming.{some_behind, none_behind}
 use Rattle.lines.proofs.parser.forms.behind.Goals as goal
 
-pub returns-in_ok-right-in-More : goal.returns-in_ok-right-in-More
-returns-in_ok-right-in-More c =
-    let ts = unread c.args.reader.now in
-    let us = unread c.form.new.reader in
-    let f = c.in_ok-right-in-More.right in
-    some_behind f ts us (headed ts More (sym c.sign.ensures ∙ c.in-More.is) refl) (subst (λ x. TookForm x us f) c.skip.ensures.whole c.in_ok-right-in-More.ensures)
+pub returns-in_ok-right : goal.returns-in_ok-right
+returns-in_ok-right c = some_behind c.in_ok-right.right (unread c.args.reader.now) _ (unread c.form.new.reader) c.if-takes.ensures.took c.in_ok-right.ensures
 
-pub returns-in_default : goal.returns-in_default
-returns-in_default c = none_behind (unread c.args.reader.now) (unlike More _ (omega arith) (λ e. c.in_default.not-More (c.sign.ensures ∙ e)))
+pub returns-else-takes : goal.returns-else-takes
+returns-else-takes c =
+    let ts = unread c.args.reader.now in
+    let e = c.if-takes.ensures.took in
+    subst (λ l. TookBehind ts l None) (sym e.0) (none_behind ts e.1)

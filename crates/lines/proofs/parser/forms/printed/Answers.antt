@@ -1,29 +1,32 @@
-use Rattle.std.proofs.Common.{◌∷◌, sym, refl, ap, ◌∙◌, arith}
-use Rattle.tokens.specs.declared.token.Sign.TheVariants.{Colon}
-use Rattle.tokens.specs.Tokens.{sign}
-use Rattle.tokens.specs.Readers.{unread, ahead}
-use Rattle.lines.proofs.Signs.{unlike, headed}
+use Rattle.std.proofs.Common.{Some, sym, refl, ap, ◌∙◌, subst}
+use Rattle.tokens.specs.Readers.{unread, ahead, Takes}
+use Rattle.lines.proofs.Steps.{refused, missing, there}
 use Rattle.lines.proofs.Forming.{no_number, long_number, read_printed, no_colon}
 use Rattle.lines.proofs.parser.forms.printed.Goals as goal
 
 pub returns-in_default : goal.returns-in_default
 returns-in_default c =
-    (refl, no_number c.next.result (unread c.args.reader.now) (ahead c.next.new.self) c.next.ensures.whole c.next.ensures.formed c.in_default.not-Number c.requires)
+    let t = c.in_ok-digits.field-0 in
+    let s = subst (λ o. Takes c.args.reader.now o c.next.new.self) (sym (there c.next.result t c.in_ok-digits.ensures.value)) c.next.ensures.steps in
+    (refl, no_number t (unread c.args.reader.now) (ahead c.next.new.self) s.whole c.in_default.not-Number)
 
-pub returns-in_default-number : goal.returns-in_default-number
-returns-in_default-number c =
-    let t = c.in-Number.ensures in
-    (refl, long_number c.in-Number.digits.now (unread c.args.reader.now) (unread c.next.new.self) t.whole c.in_default-number.ensures.value t.formed.0 t.formed.1)
+pub returns-in_err-n : goal.returns-in_err-n
+returns-in_err-n c =
+    let digits = c.in-Number.digits.now in
+    let s = subst (λ o. Takes c.args.reader.now o c.next.new.self) (sym (there c.next.result c.in_ok-digits.field-0 c.in_ok-digits.ensures.value) ∙ ap Some c.in-Number.is) c.next.ensures.steps in
+    let m = missing c.number.result _ c.in_err-n.ensures.value in
+    rw (refused c.from_residual-in_err-n.result c.from_residual-in_err-n.ensures.1 m.1)
+    (refl, λ other. long_number digits (unread c.args.reader.now) (unread c.next.new.self) s.whole (sym m.0 ∙ c.number.ensures.value) s.formed.0 s.formed.1)
 
-pub returns-in-Colon : goal.returns-in-Colon
-returns-in-Colon c =
-    let us = unread c.next.new.self in
-    read_printed c.in-Number.digits.now c.in-Some.n (unread c.args.reader.now) us (unread c.skip.new.self) c.in-Number.ensures.whole c.in-Some.ensures.value
-    (headed us Colon (sym c.sign.ensures ∙ c.in-Colon.is) refl ∙ ap (λ l. sign Colon ∷ l) (sym c.skip.ensures.whole))
+pub returns-in_err-expect : goal.returns-in_err-expect
+returns-in_err-expect c =
+    let digits = c.in-Number.digits.now in
+    let s = subst (λ o. Takes c.args.reader.now o c.next.new.self) (sym (there c.next.result c.in_ok-digits.field-0 c.in_ok-digits.ensures.value) ∙ ap Some c.in-Number.is) c.next.ensures.steps in
+    rw (refused c.from_residual-in_err-expect.result c.from_residual-in_err-expect.ensures.1 c.in_err-expect.ensures.read.0)
+    (refl, λ other. no_colon digits c.in_ok-n.n (unread c.args.reader.now) (unread c.next.new.self) s.whole (there c.number.result c.in_ok-n.n c.in_ok-n.ensures.value ∙ c.number.ensures.value) c.in_err-expect.ensures.read.1)
 
-pub returns-in_default-sign : goal.returns-in_default-sign
-returns-in_default-sign c = (
-  refl,
-  no_colon c.in-Number.digits.now c.in-Some.n (unread c.args.reader.now) (unread c.next.new.self) c.in-Number.ensures.whole c.in-Some.ensures.value
-      (unlike Colon _ (omega arith) (λ e. c.in_default-sign.not-Colon (c.sign.ensures ∙ e))),
-)
+pub returns : goal.returns
+returns c =
+    let digits = c.in-Number.digits.now in
+    let s = subst (λ o. Takes c.args.reader.now o c.next.new.self) (sym (there c.next.result c.in_ok-digits.field-0 c.in_ok-digits.ensures.value) ∙ ap Some c.in-Number.is) c.next.ensures.steps in
+    read_printed digits c.in_ok-n.n (unread c.args.reader.now) (unread c.next.new.self) (unread c.expect.new.reader) s.whole (there c.number.result c.in_ok-n.n c.in_ok-n.ensures.value ∙ c.number.ensures.value) c.in_ok-expect.ensures.read

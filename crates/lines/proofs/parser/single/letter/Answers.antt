@@ -1,24 +1,11 @@
-use Rattle.std.proofs.Common.{◌≡◌, true, ◌∷◌, get_or, sym, refl, ap, ◌∙◌, subst}
-use Rattle.word.specs.Symbols.{is_letter}
-use Rattle.tokens.specs.Tokens.{sign}
-use Rattle.tokens.specs.Readers.{unread}
+use Rattle.std.proofs.Common.{Some, get_or, refl, subst}
+use Rattle.tokens.specs.Readers.{Takes}
 use Rattle.book.specs.Grammar.{small}
-use Rattle.lines.proofs.Glyphs.{name_real, sign_real}
+use Rattle.lines.proofs.Glyphs.{name_real}
 use Rattle.lines.proofs.parser.single.letter.Goals as goal
 
-pub returns-in-Name : goal.returns-in-Name
-returns-in-Name c =
-    let t = c.in-Name.ensures in
-    record { glyph_is = small (get_or c.in-Name.part.now 0 0); spelt = t.whole; meant = refl; real = name_real (get_or c.in-Name.part.now 0 0) t.formed.1 }
-
-pub returns-in-Some : goal.returns-in-Some
-returns-in-Some c =
-    let l = c.in-Some.ensures in
-    let bs = c.in-Sign.part.now in
-    let e = ap sign (sym c.sign_of.ensures) ∙ l.spelt in
-    record {
-      glyph_is = l.glyph_is;
-      spelt = c.in-Sign.ensures.whole ∙ ap (λ t. t ∷ unread c.next.new.self) e;
-      meant = l.meant;
-      real = subst (λ b. is_letter b ≡ true) l.meant (sign_real bs l.glyph_is e);
-    }
+pub returns-in-Some-Name-clause-read : goal.returns-in-Some-Name-clause-read
+returns-in-Some-Name-clause-read c =
+    let s = subst (λ t. Takes c.args.reader.now (Some t) c.next.new.self) c.in-Some-Name.field-0-is c.in-Some-Name.ensures.steps in
+    let b = get_or c.in-Some-Name.part.now 0 0 in
+    record { glyph_is = small b; spelt = s.whole; meant = refl; real = name_real b s.formed.1 }
