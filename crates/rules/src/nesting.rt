@@ -42,5 +42,6 @@ pub fn deepest(pieces: &[Piece]) -> u8
         depth = after(depth, *p);
         most = most.max(depth);
     }
+    // within 255, so it fits; no `From` narrows
     most.min(255) as u8
 }

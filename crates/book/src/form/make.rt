@@ -17,6 +17,7 @@ fn all_names(names: &[u8]) -> bool
 
 impl Form {
     /// The form of a letter and its names, if there is one: a letter with at most 3 names, each a–z.
+    // It stays apart from `Module::new`: brackets, ranges and single numbers are there, and names in a row here.
     pub fn new(letter: u8, names: &[u8]) -> Option<Form>
         ensures { MatchOption result (sound letter names.now ≡ false) (λ f. form_of f ≡ form_with letter names.now) }
     {

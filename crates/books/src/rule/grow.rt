@@ -22,6 +22,8 @@ use expr::names::Names;
 use rules::piece::Piece;
 use word::module::Module;
 
+// Code and names are two parameters here and below: the names stay, and each call has another part of the code.
+
 // The values of a piece's arguments.
 fn worked(piece: &Piece, code: &[Code], names: &Names) -> Result<(i32, i32, i32), Cause>
     requires { length code.now ≤ 200 }

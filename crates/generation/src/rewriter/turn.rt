@@ -24,7 +24,7 @@ const MOST: u32 = 16_000_000;
 const DEEPEST: u8 = 32;
 
 impl Rewriter {
-    // The fault of this number at the module in hand.
+    // The fault of this number at the module in hand: a number, since it is a cause of this layer or one of an expression.
     pub(crate) fn found(&self, cause: u8) -> Fault
         ensures is { result ≡ found self.now.generation self.now.place cause }
         ensures bounds { in_bounds (broken result) ≡ true }

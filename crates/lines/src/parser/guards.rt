@@ -65,6 +65,7 @@ impl<'a> Parser<'a> {
     {
         self.asked()?;
         expect(&mut self.reader, Sign::Arrow)?;
+        // at most 200, so it fits; no `From` narrows
         Ok(self.codes.len() as u8)
     }
 }

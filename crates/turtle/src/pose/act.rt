@@ -50,6 +50,7 @@ impl Pose {
             return Ok(self);
         }
         let (x, y, z) = self.place.ahead(self.heading(), length);
+        // no `ok_or` with `?`: with it the proof of the refusal did not close
         let Some(place) = Place::new(x, y, z) else {
             return Err(Limit::OutOfBounds);
         };
