@@ -55,7 +55,9 @@ impl<'a> Sheet for Page<'a> {
     }
 
     fn space(&self) -> u32 {
-        let records = u32::try_from(self.buffer.len() / BYTES).unwrap_or(MOST).min(MOST);
+        let records = u32::try_from(self.buffer.len() / BYTES)
+            .unwrap_or(MOST)
+            .min(MOST);
         records - self.tally.count()
     }
 }
