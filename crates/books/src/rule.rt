@@ -13,8 +13,8 @@ pub mod grow;
 pub mod make;
 pub mod order;
 
-/// Its code is `size` places of the book's from `start` on, the guard's first; its successor is the pieces,
-/// which nest `depth` deep.
+/// Its code is `size` places of the book's from `start` on, the guard's first; its successor is the
+/// pieces, which nest `depth` deep.
 // `start` and `size` are two numbers, since a `Range` is not `Copy`, and a rule is.
 #[derive(Clone, Copy)]
 pub struct Rule {
