@@ -47,7 +47,7 @@ impl<'a> Sheet for Page<'a> {
         if self.space() == 0 {
             return Err(NoSpace);
         }
-        // By `as`, here and below, since `usize` is not `From<u32>`; the bound of the other way is the `min` before it.
+        // by `as`, since `usize` is not `From<u32>`
         let at = BYTES * self.tally.count() as usize;
         write_record(self.buffer, at, segment);
         self.tally.add(segment);
