@@ -15,7 +15,7 @@ use Rattle.rows.proofs.Held.{within as within_row}
 use Rattle.book.specs.Records.{form_of}
 use Rattle.book.specs.Grammar.{glyph, within, spells_form}
 use Rattle.lines.specs.Fits.{is, starts_glyph, Which, first, middle, last, begins, numbered as numbered-place, ignores, form_due, formed, framed, name_due, name_read, lost, on, named_on, fits}
-use Rattle.lines.specs.Parts.{TookLetter, TookNames, TookForm, TookSides, TookBehind, TookNumber}
+use Rattle.lines.specs.Parts.{TookLetter, TookNames, TookForm, TookSides, TookBehind}
 use Rattle.lines.specs.Parsing.{Read, Unruled}
 use Rattle.lines.proofs.Complete.{counts, at_form}
 use Rattle.lines.proofs.Commas.{commas, commas_closed, commas_more}
@@ -138,9 +138,6 @@ two_sides f g ts us ws vs a head b = record {
   onward = a.onward first ∙ ap (fits (framed first)) head ∙ b.onward middle;
 }
 
-pub lost_predecessor : (f : StoredForm) (ts us ws : List Lexeme) → TookForm ts us f → us ≡ sign Less ∷ ws → ((w : Which) → fits (form_due w) ws ≡ false) → fits (form_due first) ts ≡ false
-lost_predecessor f ts us ws a head l = a.onward first ∙ ap (fits (framed first)) head ∙ l middle
-
 pub one_side : (f : StoredForm) (ts us : List Lexeme) → TookForm ts us f → is Less (first_sign us) ≡ false → TookSides ts us None f
 one_side f ts us a n = record {
   before = None;
@@ -184,17 +181,6 @@ no_number (Mark p) ts bs e other n =
 
 pub long_number : (p : List ℕ) (ts us : List Lexeme) → ts ≡ number p ∷ us → None ≡ text.number p → 0 < length p → all_ascii_digits p ≡ true → fits begins ts ≡ false
 long_number p ts us e none some all = ap (fits begins) e ∙ ap (λ q. fits q us) (unnumbered p none some all numbered-place) ∙ never us
-
-pub read_printed : (p : List ℕ) (n : ℕ) (ts us vs : List Lexeme) → ts ≡ number p ∷ us → Some n ≡ text.number p → us ≡ sign Colon ∷ vs → TookNumber ts vs n
-read_printed p n ts us vs e some head =
-    let f = numbered p n some in
-    record {
-      printed = p;
-      short = f.0;
-      spelt = e ∙ ap (λ l. number p ∷ l) head;
-      meant = sym f.1;
-      onward = ap (fits begins) e ∙ ap (λ q. fits q us) (counts p numbered-place f.0) ∙ ap (fits numbered-place) head;
-    }
 
 pub no_colon : (p : List ℕ) (n : ℕ) (ts us : List Lexeme) → ts ≡ number p ∷ us → Some n ≡ text.number p → is Colon (first_sign us) ≡ false → fits begins ts ≡ false
 no_colon p n ts us e some other =

@@ -26,9 +26,6 @@ pub record Arguing (n m : ℕ) (ts us : List Lexeme) (cs ds : List Code) : Type 
   pub count_is : m ≡ n + length more
   pub onward : fits (read 0 (argument (3 - n))) ts ≡ fits (read 0 (argument (3 - m))) us
 
-pub no_more : (n : ℕ) (ts : List Lexeme) (cs : List Code) → Arguing n n ts ts cs cs
-no_more n ts cs = record { more = []; spelt = refl; coded = sym (append-nil cs); count_is = omega arith; onward = refl }
-
 codes_more : (ss : List (Tree sum)) (t : Tree sum) → codes_of (map sense (ss ++ (t ∷ []))) ≡ codes_of (map sense ss) ++ code_of (sense t)
 codes_more [] t = append-nil (code_of (sense t))
 codes_more (s ∷ ss) t = ap (λ (l : List Code). code_of (sense s) ++ l) (codes_more ss t) ∙ sym (append_assoc (code_of (sense s)) (codes_of (map sense ss)) (code_of (sense t)))

@@ -1,5 +1,5 @@
 -- What each step of reading a guard keeps, and what its refusals show.
-use Rattle.std.proofs.Common.{◌≡◌, ℕ, true, false, cond, List, [], ◌∷◌, ◌++◌, length, Option, Some, None, MatchOption, IfSome, is_some, Ok, Err, Result, sym, refl, ap, subst, ◌∙◌, append_assoc, append-nil, arith}
+use Rattle.std.proofs.Common.{◌≡◌, true, false, cond, List, [], ◌∷◌, ◌++◌, Option, Some, None, MatchOption, IfSome, is_some, Ok, Err, Result, sym, refl, ap, subst, ◌∙◌, append_assoc, append-nil, arith}
 use Rattle.std.proofs.lemmas.Bool.{both_ways, cond-false}
 use Rattle.tokens.specs.declared.token.Sign.{Sign}
 use Rattle.tokens.specs.declared.token.Sign.TheVariants.{Also, Arrow, Asks}
@@ -9,10 +9,10 @@ use Rattle.expr.specs.declared.code.Relation.{Relation}
 use Rattle.expr.specs.declared.code.Code.{Code}
 use Rattle.expr.specs.declared.code.Code.TheVariants.{Compare}
 use Rattle.rules.specs.declared.refusal.Refusal.{Refusal}
-use Rattle.book.specs.Grammar.{guard, comparison, sum, relation_sign, compared, one_comparison, also, spells, spells_guarded}
+use Rattle.book.specs.Grammar.{guard, comparison, sum, relation_sign, compared, one_comparison, also, spells}
 use Rattle.book.specs.Meanings.{sense}
 use Rattle.lines.specs.Fits.{is, joins, compares, former, latter, due, read, pieces, lost, framed, last, fits}
-use Rattle.lines.specs.Parts.{part_code, Took, Stops, Lost, TookAsked, TookGuard}
+use Rattle.lines.specs.Parts.{part_code, Took, Stops, Lost, TookAsked}
 use Rattle.lines.specs.Parsing.{Read}
 use Rattle.book.proofs.Unique.{one_more}
 use Rattle.lines.proofs.Complete.{follows, comparing}
@@ -96,12 +96,3 @@ unasked ts cs n = record {
 -- the arrow
 pub no_arrow : (ts us : List Lexeme) (cs ds : List Code) → TookAsked ts us cs ds → is Arrow (first_sign us) ≡ false → fits (framed last) ts ≡ false
 no_arrow ts us cs ds t n = t.onward ∙ ap (λ p. fits p (rest us)) (cond-false (is Arrow (first_sign us)) pieces lost n) ∙ never (rest us)
-
-pub read_arrow : (n : ℕ) (ts us vs : List Lexeme) (cs ds : List Code) → TookAsked ts us cs ds → us ≡ sign Arrow ∷ vs → n ≡ length ds → TookGuard ts vs cs ds n
-read_arrow n ts us vs cs ds t head e = record {
-  tree = t.tree;
-  spelt = t.spelt ∙ ap (λ l. spells_guarded t.tree ++ l) head;
-  coded = t.coded;
-  size = e;
-  onward = t.onward ∙ ap (λ l. fits (cond (is Arrow (first_sign l)) pieces lost) (rest l)) head;
-}

@@ -1,5 +1,5 @@
 -- A rule is read back from its code.
-use Rattle.std.proofs.Common.{◌≡◌, ℕ, suc, ◌+◌, ◌≤◌, List, [], ◌∷◌, ◌++◌, map, length, take, drop, Some, None, Option, sym, refl, ap, ◌∙◌, append_assoc, append-nil, arith, length-append}
+use Rattle.std.proofs.Common.{◌≡◌, ℕ, suc, ◌+◌, ◌≤◌, List, [], ◌∷◌, ◌++◌, map, length, take, drop, sym, refl, ap, ◌∙◌, append_assoc, append-nil, arith, length-append}
 use lib.Seq.{take-append_seam, drop-append_seam}
 use Rattle.tokens.specs.declared.token.Sign.TheVariants.{Arrow, Colon}
 use Rattle.tokens.specs.Tokens.{Lexeme, number, sign}
@@ -12,10 +12,9 @@ use Rattle.rules.specs.declared.piece.Piece.{Piece as StoredPiece}
 use Rattle.book.specs.Rules.{Piece}
 use Rattle.rules.specs.Layout.{successor_code, rule_code}
 use Rattle.rules.specs.Records.{pieces_from, rule_from, places_in}
-use Rattle.book.specs.Grammar.{guard, Tree, spells_form, spells_pieces, RuleTree, spells_before, spells_behind, spells_guarded, ruling, spells_line}
+use Rattle.book.specs.Grammar.{spells_form, spells_pieces, RuleTree, spells_before, spells_behind, spells_guarded, ruling, spells_line}
 use Rattle.book.specs.Meanings.{piece_sense, guard_sense, rule_sense}
 use Rattle.lines.specs.Parts.{TookHead, TookGuard, outlined, outline, TookPieces}
-use Rattle.lines.proofs.Room.{short}
 
 -- expressions laid out one after the other lie on the stack, the last first
 abbrev onto : List Expr → List Expr → List Expr
@@ -61,27 +60,6 @@ places_back (p ∷ ps) (q ∷ qs) e =
     let a : outlined p ≡ outline q = cc in
     let b : map outlined ps ≡ map outline qs = cc in
     omega (arith, ap (λ o. o.places) a, places_back ps qs b, length-append (codes_of q.arguments) (successor_code qs))
-
--- how much room the head and the guard leave
-pub room_head : (ts us : List Lexeme) (h : Head) → TookHead ts us h → length us ≤ length ts
-room_head ts us h t =
-    let s = t.sided in
-    let a = ap length t.numbered.spelt in
-    let b = ap length s.spelt ∙ length-append (spells_before s.before) (spells_form s.predecessor ++ t.behind_left) in
-    let c = length-append (spells_form s.predecessor) t.behind_left in
-    let d = ap length t.followed.spelt ∙ length-append (spells_behind t.followed.behind) us in
-    omega arith
-
-guard_long : (g : Option (Tree guard)) → length (comparisons_code (guard_sense g)) ≤ length (spells_guarded g)
-guard_long None = omega arith
-guard_long (Some g) = let k = short g in omega arith
-
-pub room_guard : (ts us : List Lexeme) (cs ds : List Code) (n : ℕ) → TookGuard ts us cs ds n → length ds + length us ≤ length cs + length ts
-room_guard ts us cs ds n t =
-    let a = ap length t.spelt ∙ length-append (spells_guarded t.tree) (sign Arrow ∷ us) in
-    let b = ap length t.coded ∙ length-append cs (comparisons_code (guard_sense t.tree)) in
-    let k = guard_long t.tree in
-    omega arith
 
 -- a whole rule
 module _ (h : Head) (n : ℕ) (ps : List StoredPiece) (ts us vs : List Lexeme) (cs ds es : List Code) (t : TookHead ts us h) (g : TookGuard us vs cs ds n) (p : TookPieces vs [] ds es ps) (none : cs ≡ []) where

@@ -6,7 +6,7 @@ use Rattle.tokens.specs.declared.token.Sign.{Sign}
 use Rattle.tokens.specs.declared.token.Sign.TheVariants.{Letter, Plus, Minus, Times, Over, Opens, Closes, Less, AtMost, Equal, Unequal, AtLeast, More, Also, Arrow, Comma, Colon, Asks, Ignores, Branches, Rejoins, Stray}
 use Rattle.tokens.specs.Tokens.{Lexeme, number, name, sign}
 use Rattle.tokens.specs.Readers.{leading, first_sign, rest}
-use Rattle.lines.specs.Fits.{rank, is, Known, joins, as_sign, Which, first, middle, last, Side, former, latter, argument, Place, numbered, form_due, formed, framed, name_read, name_due, due, read, lost, on, named_on, summed, operated, step, ends, fits}
+use Rattle.lines.specs.Fits.{rank, is, joins, as_sign, Which, first, middle, last, Side, former, latter, argument, Place, numbered, form_due, formed, framed, name_read, name_due, due, read, lost, on, named_on, summed, operated, step, ends, fits}
 
 pub never : (ts : List Lexeme) → fits lost ts ≡ false
 never [] = refl
@@ -56,19 +56,6 @@ passed (sign x ∷ ts) us s e p = λ i. sign (unwrap_or (sym e i) Stray) ∷ sym
 pub taken : {A : Type 0} (ts us : List Lexeme) (o : Option Sign) (x : A) (P : Sign → Type 0) → o ≡ leading ts → MatchOption o (Some x ≡ None) P → us ≡ rest ts → (s : Sign) × P s × (ts ≡ sign s ∷ us)
 taken ts us None x P e m p = absurd (both_ways true (ap is_some m) refl)
 taken ts us (Some s) x P e m p = (s, m, passed ts us s e p)
-
--- a sign that does not stand first fails the test for it
-pub not_first : (a : Sign) (ts : List Lexeme) → Known a → (leading ts ≡ Some a → ⊥) → is a (first_sign ts) ≡ false
-not_first a ts known other = go ts other
-  where
-    stray : is a Stray ≡ false
-    stray = ne_eqb 21 (rank a) (λ e. absurd (omega (arith, known.1)))
-
-    go : (ts : List Lexeme) → (leading ts ≡ Some a → ⊥) → is a (first_sign ts) ≡ false
-    go [] n = stray
-    go (number ds ∷ ts) n = stray
-    go (name c ∷ ts) n = stray
-    go (sign s ∷ ts) n = unlike a s known.0 (λ e. n (ap Some e))
 
 -- where only a sign may stand, the first sign says where the line has come
 by_sign : (p : Place) (f : Sign → Place) → ends p ≡ false → ends (f Stray) ≡ false → ((t : Lexeme) → step p t ≡ f (as_sign t)) → (ts : List Lexeme) → fits p ts ≡ fits (f (first_sign ts)) (rest ts)

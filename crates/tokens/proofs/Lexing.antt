@@ -5,9 +5,9 @@ use Rattle.std.specs.Str.{all_ascii_digits}
 use Rattle.std.proofs.lemmas.Bool.{eqb-true}
 use Rattle.std.proofs.lemmas.Bool.Decides.{nat_tests}
 use Rattle.std.proofs.lemmas.List.Sums.{prefix_len-le-length}
-use Rattle.tokens.specs.declared.token.Token.TheVariants.{Number}
+use Rattle.tokens.specs.declared.token.Token.TheVariants.{Number, Sign}
 use Rattle.tokens.specs.Readers.{Leads}
-use Rattle.tokens.specs.Tokens.{number, is_space, is_digit, pairs, single, joined, tokens}
+use Rattle.tokens.specs.Tokens.{number, sign, is_space, is_digit, is_name, pairs, lone, sign_of, is_sign, single, joined, tokens}
 
 digit_alone : (b : ℕ) → is_digit b ≡ true → single b ≡ number (b ∷ []) ∷ []
 digit_alone b h = let s : is_space b ≡ false = grind (arith, nat_tests) in rw (s, h)
@@ -84,3 +84,19 @@ number_leads (b ∷ bs) n p some d count part =
       whole = by_digits b bs d ∙ ap (λ x. number x ∷ tokens (drop (prefix_len is_digit bs) bs)) (sym e) ∙ ap (λ k. number p.now ∷ tokens (drop k l)) (sym m);
       formed = (rw e (omega arith), ap all_ascii_digits all ∙ all_digits l);
     }
+
+no_space : (b : ℕ) (n : ℕ) (x : Bool) → is_space b ≡ x → cond x (1 + n) 0 ≡ 0 → is_space b ≡ false
+no_space b n true e h = absurd (omega arith)
+no_space b n false e h = e
+
+mark_first : (b : ℕ) (bs : List ℕ) → is_space b ≡ false → is_digit b ≡ false → is_name b ≡ false → (1 < length (b ∷ bs) → pairs b (get_or (b ∷ bs) 1 0) ≡ false) → tokens (b ∷ bs) ≡ sign (lone b) ∷ tokens bs
+mark_first b [] s d n two = rw (s, d, n)
+mark_first b (c ∷ bs) s d n two = let p = two (omega arith) in rw (d, p, s, n)
+
+-- a byte that is no space, no digit and no name, and no pair with the next one, is a sign by itself
+pub one_leads : (l : List ℕ) (p : Bor (List ℕ)) → 0 < length l → prefix_len is_space l ≡ 0 → is_digit (get_or l 0 0) ≡ false → is_name (get_or l 0 0) ≡ false → (1 < length l → pairs (get_or l 0 0) (get_or l 1 0) ≡ false) → p.now ≡ take 1 l → Leads l (Sign p) 1
+one_leads [] p some s d n two part = absurd (omega arith)
+one_leads (b ∷ bs) p some s d n two part =
+    let space = no_space b (prefix_len is_space bs) (is_space b) refl s in
+    let mark : is_sign (b ∷ []) ≡ true = rw (space, d, n) in
+    record { within = omega arith; part = part; whole = mark_first b bs space d n two ∙ ap (λ l. sign (sign_of l) ∷ tokens bs) (sym part); formed = ap is_sign part ∙ mark }

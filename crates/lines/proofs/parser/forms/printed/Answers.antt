@@ -1,7 +1,7 @@
 use Rattle.std.proofs.Common.{Some, sym, refl, ap, ◌∙◌, subst}
 use Rattle.tokens.specs.Readers.{unread, ahead, Takes}
 use Rattle.lines.proofs.Steps.{refused, missing, there}
-use Rattle.lines.proofs.Forming.{no_number, long_number, read_printed, no_colon}
+use Rattle.lines.proofs.Forming.{no_number, long_number, no_colon}
 use Rattle.lines.proofs.parser.forms.printed.Goals as goal
 
 pub returns-in_default : goal.returns-in_default
@@ -24,9 +24,3 @@ returns-in_err-expect c =
     let s = subst (λ o. Takes c.args.reader.now o c.next.new.self) (sym (there c.next.result c.in_ok-digits.field-0 c.in_ok-digits.ensures.value) ∙ ap Some c.in-Number.is) c.next.ensures.steps in
     rw (refused c.from_residual-in_err-expect.result c.from_residual-in_err-expect.ensures.1 c.in_err-expect.ensures.read.0)
     (refl, λ other. no_colon digits c.in_ok-n.n (unread c.args.reader.now) (unread c.next.new.self) s.whole (there c.number.result c.in_ok-n.n c.in_ok-n.ensures.value ∙ c.number.ensures.value) c.in_err-expect.ensures.read.1)
-
-pub returns : goal.returns
-returns c =
-    let digits = c.in-Number.digits.now in
-    let s = subst (λ o. Takes c.args.reader.now o c.next.new.self) (sym (there c.next.result c.in_ok-digits.field-0 c.in_ok-digits.ensures.value) ∙ ap Some c.in-Number.is) c.next.ensures.steps in
-    read_printed digits c.in_ok-n.n (unread c.args.reader.now) (unread c.next.new.self) (unread c.expect.new.reader) s.whole (there c.number.result c.in_ok-n.n c.in_ok-n.ensures.value ∙ c.number.ensures.value) c.in_ok-expect.ensures.read
