@@ -23,6 +23,7 @@ pub struct Rule {
     size: usize,
     guard: u8,
     pieces: Row<Piece, 24>,
+    // a number, as `deepest` counts it; no successor nests deeper than 12, so a `Depth` would say no more
     depth: u8,
     ghost few: { guard ≤ 200 },
     ghost within: { guard + places_in (held pieces) ≤ size },

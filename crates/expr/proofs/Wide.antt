@@ -44,9 +44,6 @@ module _ (x y v w : ℤ) (f : SFits w32 x) (g : SFits w32 y) (d : v ≡ to_z w32
   pub quotient : to_z w64 (of_z w64 (quot_z (to_z w64 (of_z w64 v)) (to_z w64 (of_z w64 w)))) ≡ quot_z x y
   quotient = exact quot_z (quotient_fits x y f g)
 
-not_zero : (y : ℤ) → (of_z w64 y ≡ 0 → ⊥) → eqb (nat_abs y) 0 ≡ false
-not_zero (pos n) h = ne_eqb n 0 h
-not_zero (negsuc n) h = ne_eqb (suc n) 0 (λ e. omega arith)
-
-pub nonzero : (y w : ℤ) → SFits w32 y → w ≡ to_z w32 (of_z w32 y) → (of_z w64 w ≡ 0 → ⊥) → eqb (nat_abs y) 0 ≡ false
-nonzero y w g e h = not_zero y (subst (λ z. of_z w64 z ≡ 0 → ⊥) (e ∙ to_z-of_z w32 y g) h)
+pub nonzero : (y : ℤ) → (of_z w32 y ≡ 0 → ⊥) → eqb (nat_abs y) 0 ≡ false
+nonzero (pos n) h = ne_eqb n 0 h
+nonzero (negsuc n) h = ne_eqb (suc n) 0 (λ e. omega arith)

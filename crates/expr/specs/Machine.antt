@@ -17,16 +17,16 @@ held s = map value_of (reverse (filled s.values))
 abbrev pub pushed : Value → List Value → List Value
 pushed v vs = cond (nat_lt (length vs) 200) (v ∷ vs) vs
 
--- a place of code that joins nothing keeps the first operand
-abbrev pub applied : Code → ℤ → ℤ → Value
-applied Add x y = ranged (x +ℤ y)
-applied Subtract x y = ranged (x -ℤ y)
-applied Multiply x y = ranged (x *ℤ y)
-applied Divide x y = divided x y
-applied _ x y = ranged x
-
 abbrev pub binary : Code → Value → Value → Value
-binary sign u v = both u v (applied sign)
+binary Add x y = both x y (λ a b. ranged (a +ℤ b))
+binary Subtract x y = both x y (λ a b. ranged (a -ℤ b))
+binary Multiply x y = both x y (λ a b. ranged (a *ℤ b))
+binary Divide x y = both x y divided
+binary Blank x y = x
+binary (Number n) x y = x
+binary (Name c) x y = x
+binary Negate x y = x
+binary (Compare r) x y = x
 
 abbrev pub two : Code → List Value → List Value
 two c vs = pushed (binary c (top (is (pos 0)) (below vs)) (top (is (pos 0)) vs)) (below (below vs))

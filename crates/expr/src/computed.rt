@@ -1,6 +1,6 @@
 // Values, and the faults in their place.
 ghost use Rattle.std.specs.Prelude.{◌≡◌};
-ghost use Rattle.expr.specs.Values.{ranged, negated, compared, judged};
+ghost use Rattle.expr.specs.Values.{ranged, negated, divided, compared, judged};
 ghost use Rattle.expr.specs.Records.{value_of, verdict_of, cause_number};
 ghost use Rattle.expr.specs.Machine.{binary};
 
@@ -39,20 +39,26 @@ pub fn negated(x: Result<i32, Cause>) -> Result<i32, Cause>
     ranged(-i64::from(x?))
 }
 
-// Two operands and the sign between them; a place of code that is no such sign keeps the first. The quotient is rounded toward
-// zero.
+// A quotient, rounded toward zero.
+fn divided(x: i32, y: i32) -> Result<i32, Cause>
+    ensures { value_of result ≡ divided x y }
+{
+    if y == 0 {
+        return Err(Cause::DividedByZero);
+    }
+    ranged(i64::from(x) / i64::from(y))
+}
+
+// Two operands and the sign between them; a place of code that is no such sign keeps the first.
 pub fn joined(sign: Code, x: Result<i32, Cause>, y: Result<i32, Cause>) -> Result<i32, Cause>
     ensures { value_of result ≡ binary sign (value_of x) (value_of y) }
 {
-    let x = i64::from(x?);
-    let y = i64::from(y?);
     match sign {
-        Code::Add => ranged(x + y),
-        Code::Subtract => ranged(x - y),
-        Code::Multiply => ranged(x * y),
-        Code::Divide if y == 0 => Err(Cause::DividedByZero),
-        Code::Divide => ranged(x / y),
-        _ => ranged(x),
+        Code::Add => ranged(i64::from(x?) + i64::from(y?)),
+        Code::Subtract => ranged(i64::from(x?) - i64::from(y?)),
+        Code::Multiply => ranged(i64::from(x?) * i64::from(y?)),
+        Code::Divide => divided(x?, y?),
+        _ => x,
     }
 }
 

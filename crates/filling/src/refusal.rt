@@ -15,6 +15,7 @@ pub enum JobRefusal {
     Line(Refusal, usize),
 }
 
+// For a program that reads a job and fills its book.
 impl From<job::refusal::Refusal> for JobRefusal {
     ghost from_gives = { λ why refusal. refusal ≡ Job why };
 
@@ -45,7 +46,7 @@ impl JobRefusal {
     }
 }
 
-// The number, and the line.
+// The number, and the line: written like `job`'s own, since the two share no type.
 impl fmt::Display for JobRefusal {
     ghost output = { λ e. Some (decimal (job_refusal_number e) ++ (codes " line " ++ decimal (job_refusal_line e))) };
 

@@ -15,8 +15,10 @@ use word::fault::Fault;
 pub mod tell;
 pub mod turn;
 
-/// The book, the generation number of the word below, the modules read ahead, one left neighbour for each depth, how many modules are in the result, the position of the next
-/// module of the word below, what is to be told next with the brackets open before it, and the fault that ends the result.
+/// The book, the generation number of the word below, the modules read ahead, one left neighbour for each depth, how many
+/// modules are in the result, the position of the next module of the word below, what is to be told next with the brackets open
+/// before it, and the fault that ends the result.
+// A row and how many of it are told: no row is taken from its front.
 #[derive(Clone, Copy)]
 pub struct Rewriter {
     pub(crate) book: ClosedBook,

@@ -16,6 +16,7 @@ use word::source::Source;
 #[derive(Clone, Copy)]
 enum State {
     Passing,
+    // a number, since it is compared and the least of two is taken: a `Depth` has no order
     Dropping(u8),
 }
 

@@ -42,6 +42,6 @@ pub fn deepest(pieces: &[Piece]) -> u8
         depth = after(depth, *p);
         most = most.max(depth);
     }
-    // within 255, so it fits; no `From` narrows
+    // within 255, so it fits; a `try_from` would be no plainer
     most.min(255) as u8
 }

@@ -5,7 +5,7 @@ ghost use Rattle.books.specs.Order.{head_rank, head_precedes, spot, numbered};
 use super::Rule;
 use rules::head::Head;
 
-// Both sides, left only, right only, none.
+// Both sides, left only, right only, none: a number, as the order of rules in a book is said by numbers.
 fn rank(head: &Head) -> u8
     ensures { result ≡ head_rank head.now }
 {

@@ -13,7 +13,7 @@ use super::Names;
 // No line has more places of code, and no more are read.
 const MOST_PLACES: usize = 200;
 
-// Three values, or the first fault.
+// Three values, or the first fault: three single numbers, as a module has them.
 fn gathered(
     a: Result<i32, Cause>,
     b: Result<i32, Cause>,

@@ -54,7 +54,8 @@ impl<S: Source + Drop> Generation<S> {
         self.stands_at(0)
     }
 
-    // Looks for the right neighbour of the module in hand, among the 64 behind it and no further than needed.
+    // Looks for the right neighbour of the module in hand, among the 64 behind it and no further than needed. That there is one in
+    // hand is asked here and in three more places: a type for it would be a second window.
     fn look(&mut self) -> Result<Option<Module>, Fault>
         requires { 0 < length (in_window self.old.inner.window) }
         ensures on { ReadsOn self.old.inner (S.Source.means self.old.below) self.new.inner (S.Source.means self.new.below) }

@@ -61,7 +61,7 @@ impl Rewriter {
         let depth = self.window.first();
         self.lefts.note(depth, symbol, ignored);
         let _ = self.window.pop();
-        // at most 24, so it fits; no `From` narrows
+        // at most 24, so it fits; a `try_from` would be no plainer
         self.produced += modules.len() as u32;
         self.place = (self.place + 1).min(END);
         self.growth = modules;

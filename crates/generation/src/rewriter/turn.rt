@@ -40,7 +40,7 @@ impl Rewriter {
     fn add(&self, modules: Modules) -> Result<Modules, Fault>
         ensures { (e : ℕ) → spans self.now.window.first.brackets (symbols_in modules) e ≡ true → Answers self.now.produced self.now.window.first.brackets e (added self.now.generation self.now.produced self.now.place (symbols_in modules)) result }
     {
-        // at most 24, so it fits; no `From` narrows
+        // at most 24, so it fits; a `try_from` would be no plainer
         if self.produced + modules.len() as u32 > MOST {
             return Err(self.found(Cause::TooLong as u8));
         }
@@ -58,13 +58,16 @@ impl Rewriter {
             module: symbol,
             right,
         };
-        match self.book.becomes(site) {
-            Ok(None) => self.add(one(symbol)),
-            Ok(Some(growth)) if growth.depth > DEEPEST - depth.brackets => {
+        let growth = self
+            .book
+            .becomes(site)
+            .map_err(|cause| self.found(cause.number()))?;
+        match growth {
+            None => self.add(one(symbol)),
+            Some(growth) if growth.depth > DEEPEST - depth.brackets => {
                 Err(self.found(Cause::TooDeep as u8))
             }
-            Ok(Some(growth)) => self.add(growth.modules),
-            Err(cause) => Err(self.found(cause.number())),
+            Some(growth) => self.add(growth.modules),
         }
     }
 

@@ -29,7 +29,7 @@ fn named(form: Form, name: u8) -> Form
     }
 }
 
-// One to three names behind an opening parenthesis, and the closing one.
+// One to three names behind an opening parenthesis, and the closing one. Beside `arguments`, which says why.
 fn names(reader: &mut Reader, bare: Form) -> Result<Form, Refusal>
     requires { (form_of bare).names ≡ [] }
     ensures { ReadsNames bare.letter result reader.old reader.new }

@@ -10,7 +10,7 @@ use expr::code::{Code, Relation};
 use rules::refusal::Refusal;
 use tokens::token::Sign;
 
-// The relation that a sign compares by.
+// The relation that a sign compares by. A function, as `lettering` is.
 fn relation(by: Sign) -> Option<Relation>
     ensures { MatchOption result (compares by ≡ false) (λ relation. by ≡ relation_sign relation) }
 {
@@ -65,7 +65,7 @@ impl<'a> Parser<'a> {
     {
         self.asked()?;
         expect(&mut self.reader, Sign::Arrow)?;
-        // at most 200, so it fits; no `From` narrows
+        // at most 200, so it fits; a `try_from` would be no plainer
         Ok(self.codes.len() as u8)
     }
 }

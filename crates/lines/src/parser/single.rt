@@ -55,8 +55,8 @@ pub(crate) fn take_as<T, F: FnOnce(Sign) -> Option<T>>(reader: &mut Reader, mean
     Some(known)
 }
 
-// The letter that a sign is. A function, as `relation`, `adding` and `multiplying` are, and no `TryFrom`: neither type is of
-// this crate.
+// The letter that a sign is. A function, as `relation`, `adding` and `multiplying` are, and no `TryFrom`: what a sign means to a
+// rule is told here, where neither type is of this crate, and `tokens` knows nothing of rules.
 fn lettering(sign: Sign) -> Option<u8>
     ensures { MatchOption result (is_letter_sign sign ≡ false) (λ b. Lettering sign b) }
 {

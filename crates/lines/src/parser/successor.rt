@@ -42,7 +42,7 @@ impl<'a> Parser<'a> {
         let letter = letter(&mut self.reader)?;
         let before = self.codes.len();
         let count = self.arguments()?;
-        // at most 200, so it fits; no `From` narrows
+        // at most 200, so it fits; a `try_from` would be no plainer
         let places = (self.codes.len() - before) as u8;
         Ok(Piece {
             letter,

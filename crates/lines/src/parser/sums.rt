@@ -12,7 +12,7 @@ use rules::refusal::Refusal;
 use tokens::token::{Sign, Token};
 use word::numbers::number;
 
-// The code of a sign that joins factors.
+// The code of a sign that joins factors. A function, as `lettering` is.
 fn multiplying(by: Sign) -> Option<Code>
     ensures { MatchOption result (multiplies by ≡ false) (λ code. Multiplying by code) }
 {
