@@ -1,5 +1,5 @@
 -- What the bytes of a job ask for: a line with one digit 0 to 8, a line with the seed text, then the lines of the book.
-use Rattle.std.specs.Prelude.{ℕ, suc, Bool, false, not, ◌&&◌, ◌||◌, List, [], ◌∷◌, length, drop, ◌==◌, nat_le, nat_lt, slice_index_or}
+use Rattle.std.specs.Prelude.{ℕ, suc, Bool, false, not, ◌&&◌, ◌||◌, List, [], ◌∷◌, length, drop, nat_le, nat_lt, slice_index_or}
 use Rattle.word.specs.Symbols.{among}
 use Rattle.word.specs.Text.{split, worth}
 
@@ -49,7 +49,3 @@ numbered n ((b ∷ bs) ∷ ls) = (n, b ∷ bs) ∷ numbered (suc n) ls
 -- the lines from the third on
 abbrev pub book_lines : List ℕ → List (ℕ × List ℕ)
 book_lines job = numbered 3 (drop 2 (lines_of job))
-
--- no generation and no book
-abbrev pub is_seed_alone : List ℕ → Bool
-is_seed_alone job = generations_of job == 0 && length (book_lines job) == 0

@@ -5,9 +5,7 @@ use Rattle.job.specs.declared.refusal.Refusal.TheVariants.{NoJob}
 use Rattle.job.specs.declared.lines.Lines.{Lines}
 use Rattle.job.specs.declared.lines.Line.{Line}
 use Rattle.job.specs.declared.job.Job.{Job}
-use Rattle.job.specs.declared.order.Order.{Order}
-use Rattle.job.specs.declared.order.Order.TheVariants.{NotYet, Unroll}
-use Rattle.job.specs.Jobs.{lines_of, numbered, is_refused, generations_of, seed_text, book_lines, is_seed_alone}
+use Rattle.job.specs.Jobs.{lines_of, numbered, is_refused, generations_of, seed_text, book_lines}
 
 -- the number of a refusal, and the line that it is written with
 abbrev pub refusal_number : Refusal → ℕ
@@ -39,9 +37,3 @@ Refuses bytes refusal = (is_refused bytes ≡ true) × (refusal_number refusal �
 abbrev pub Reads : List ℕ → Result Job Refusal → Type 0
 Reads bytes (Ok job) = (is_refused bytes ≡ false) × Asks bytes job
 Reads bytes (Err refusal) = Refuses bytes refusal
-
--- the seed alone is unrolled, and any other job that is not refused has to wait
-abbrev pub Orders : List ℕ → Result Order Refusal → Type 0
-Orders bytes (Err refusal) = Refuses bytes refusal
-Orders bytes (Ok NotYet) = (is_refused bytes ≡ false) × (is_seed_alone bytes ≡ false)
-Orders bytes (Ok (Unroll text)) = (is_refused bytes ≡ false) × (is_seed_alone bytes ≡ true) × (text.now ≡ seed_text bytes)

@@ -3,5 +3,4 @@
 
 pub mod job;
 pub mod lines;
-pub mod order;
 pub mod refusal;

@@ -1,12 +1,9 @@
 -- The text of a word, module by module.
-use Rattle.std.proofs.Common.{◌≡◌, ℕ, true, List, [], ◌∷◌, ◌++◌, codes, decimal, sym, ap, ◌∙◌, append_assoc}
-use Rattle.std.specs.Fmt.{digits}
-use Rattle.std.proofs.lemmas.Bool.{cond-true}
+use Rattle.std.proofs.Common.{◌≡◌, ℕ, List, [], ◌∷◌, ◌++◌, sym, ap, ◌∙◌, append_assoc}
 use Rattle.word.specs.Symbols.{Symbol}
 use Rattle.word.specs.Words.{Ending, Told}
 use Rattle.word.specs.Text.{written, spelled}
-use Rattle.job.specs.Jobs.{is_refused}
-use Rattle.unroll.specs.Printed.{on_a_line, ending_text, told_text, answer_text}
+use Rattle.unroll.specs.Printed.{on_a_line, ending_text, told_text}
 
 pub at_end : (t : Told) (e : Ending) → t.modules ≡ [] → t.ending ≡ e → 10 ∷ on_a_line (ending_text e) ≡ told_text t
 at_end t e m n = sym (λ i. on_a_line (spelled (m i)) ++ on_a_line (ending_text (n i)))
@@ -22,10 +19,3 @@ next t t' s m n =
 -- a module that is written is no more to come
 pub moves : (t t' : Told) (s : Symbol) (bs all : List ℕ) → t.modules ≡ s ∷ t'.modules → t'.ending ≡ t.ending → bs ++ told_text t ≡ all → (bs ++ written s) ++ told_text t' ≡ all
 moves t t' s bs all m n e = append_assoc bs (written s) (told_text t') ∙ ap (λ l. bs ++ l) (sym (next t t' s m n)) ∙ e
-
-refusal_text : (number line : ℕ) → number ≡ 58 → line ≡ 1 → decimal number ++ (codes " line " ++ decimal line) ≡ codes "58 line 1"
-unfolding digits
-refusal_text number line e h = λ i. decimal (e i) ++ (codes " line " ++ decimal (h i))
-
-pub refused : (job : List ℕ) (number line : ℕ) → is_refused job ≡ true → number ≡ 58 → line ≡ 1 → on_a_line (codes "refused " ++ (decimal number ++ (codes " line " ++ decimal line))) ≡ answer_text job
-refused job number line r e h = ap (λ l. on_a_line (codes "refused " ++ l)) (refusal_text number line e h) ∙ sym (cond-true (is_refused job) _ _ r)

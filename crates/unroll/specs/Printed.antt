@@ -1,10 +1,13 @@
--- What is printed for the bytes of a job.
-use Rattle.std.specs.Prelude.{ℕ, cond, List, [], ◌∷◌, ◌++◌, codes, decimal}
+-- What is printed for a job, by what is done with it.
+use Rattle.std.specs.Prelude.{ℕ, List, ◌∷◌, [], ◌++◌, Ok, Err, Result, codes, decimal}
 use Rattle.word.specs.Words.{Ending, clean, broken, Told}
 use Rattle.word.specs.Text.{spelled}
 use Rattle.seed.specs.Seeds.{seeded}
 use Rattle.pruner.specs.Pruned.{pruned_meaning}
-use Rattle.job.specs.Jobs.{is_refused, is_seed_alone, seed_text}
+use Rattle.filling.specs.declared.refusal.JobRefusal.{JobRefusal}
+use Rattle.filling.specs.Refusals.{job_refusal_number, job_refusal_line}
+use Rattle.unroll.specs.declared.order.Order.{Order}
+use Rattle.unroll.specs.declared.order.Order.TheVariants.{NotYet, Unroll}
 
 abbrev pub on_a_line : List ℕ → List ℕ
 on_a_line text = text ++ (10 ∷ [])
@@ -17,8 +20,8 @@ ending_text (broken f) = codes "end fault " ++ (decimal f.cause ++ (32 ∷ (deci
 abbrev pub told_text : Told → List ℕ
 told_text t = on_a_line (spelled t.modules) ++ on_a_line (ending_text t.ending)
 
--- a job that asks for no more than its seed is answered by the pruned word of that seed
-abbrev pub answer_text : List ℕ → List ℕ
-answer_text job =
-    cond (is_refused job) (on_a_line (codes "refused 58 line 1"))
-    (cond (is_seed_alone job) (told_text (pruned_meaning (seeded (seed_text job))).told) (on_a_line (codes "not yet")))
+-- a refusal by its number and line, the seed alone by its pruned word
+abbrev pub answer_text : Result Order JobRefusal → List ℕ
+answer_text (Err why) = on_a_line (codes "refused " ++ (decimal (job_refusal_number why) ++ (codes " line " ++ decimal (job_refusal_line why))))
+answer_text (Ok NotYet) = on_a_line (codes "not yet")
+answer_text (Ok (Unroll text)) = told_text (pruned_meaning (seeded text.now)).told

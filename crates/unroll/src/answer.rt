@@ -3,7 +3,8 @@ ghost use Rattle.std.specs.Prelude.{◌≡◌, [], Some, OnOk};
 ghost use Rattle.std.specs.Fmt.{WritesOnOk};
 ghost use Rattle.unroll.specs.Printed.{told_text, answer_text};
 
-use job::order::{Order, order_of};
+use super::order::Order;
+use filling::refusal::JobRefusal;
 use pruner::Pruner;
 use seed::seed::Seed;
 use std::fmt;
@@ -23,17 +24,17 @@ fn show_word<S: Source, W: fmt::Write>(source: &mut S, f: &mut fmt::Formatter<W>
     }
 }
 
-/// The answer to the job that some bytes are.
+/// The answer to a job, by what is done with it.
 #[derive(Clone, Copy)]
 pub struct Answer<'a> {
-    pub job: &'a [u8],
+    pub order: Result<Order<'a>, JobRefusal>,
 }
 
 impl fmt::Display for Answer<'_> {
-    ghost output = { λ a. Some (answer_text a.job.now) };
+    ghost output = { λ a. Some (answer_text a.order) };
 
     fn fmt<W: fmt::Write>(&self, f: &mut fmt::Formatter<W>) -> fmt::Result {
-        match order_of(self.job) {
+        match self.order {
             Err(refusal) => writeln!(f, "refused {refusal}"),
             Ok(Order::NotYet) => writeln!(f, "not yet"),
             Ok(Order::Unroll(text)) => show_word(&mut Pruner::new(Seed::new(text)), f),

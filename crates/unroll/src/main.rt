@@ -2,11 +2,13 @@
 #![tactic(auto)]
 
 mod answer;
+mod order;
 #[cfg(test)]
 mod tests;
 
 use answer::Answer;
 use job::job::LONGEST;
+use order::order_of;
 use std::io;
 use std::io::{BufWriter, Read, Write};
 
@@ -15,6 +17,7 @@ fn main(rt: HostRuntime) -> io::Result<()> {
     let mut bytes = Vec::new(rt.alloc());
     rt.stdin().take(LONGEST as u64 + 1).read_to_end(&mut bytes)?;
     let mut out = BufWriter::new(rt.alloc(), rt.stdout())?;
-    write!(out, "{}", Answer { job: &bytes })?;
+    let order = order_of(&bytes);
+    write!(out, "{}", Answer { order })?;
     out.flush()
 }

@@ -1,11 +1,13 @@
 use crate::answer::Answer;
+use crate::order::order_of;
 use std::alloc::Global;
 use std::process::Abort;
 use std::test::Fail;
 
 // What is printed for a job.
 fn answers(rt: &impl Abort, heap: Global, job: &[u8], text: &str) -> Result<(), Fail> {
-    let answer = format!(in heap; "{}", Answer { job })?;
+    let order = order_of(job);
+    let answer = format!(in heap; "{}", Answer { order })?;
     assert_eq!(rt; answer.as_str(), text);
     Ok(())
 }
@@ -41,7 +43,20 @@ fn refusals(rt: HostRuntime) -> Result<(), Fail> {
     answers(&rt, heap, b"0", "refused 58 line 1\n")?;
     answers(&rt, heap, b"9\nF\n", "refused 58 line 1\n")?;
     answers(&rt, heap, b"0\r\nF\r\n", "refused 58 line 1\n")?;
-    answers(&rt, heap, b"0\nF\n\n1: F -> FF\n", "not yet\n")?;
     answers(&rt, heap, b"0\n", "\nend clean\n")?;
     answers(&rt, heap, b"0\nA%B]D", "A\nend fault 23 0 4\n")
+}
+
+#[test]
+fn books(rt: HostRuntime) -> Result<(), Fail> {
+    let heap = rt.alloc();
+    answers(&rt, heap, b"0\nF%A\n\n1: F -> FF\n", "F\nend clean\n")?;
+    answers(&rt, heap, b"1\nF\n1: F -> FF\n", "not yet\n")?;
+    answers(
+        &rt,
+        heap,
+        b"1\nF\n1: F -> FF\n\n2: F -> \n1: F ->",
+        "refused 11 line 6\n",
+    )?;
+    answers(&rt, heap, b"0\nA%B]D\nF\n", "refused 2 line 3\n")
 }
