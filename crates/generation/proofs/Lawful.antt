@@ -10,7 +10,8 @@ use Rattle.books.specs.Outcomes.{Outcome, itself, grown, fault, becomes}
 use Rattle.books.specs.Nesting.{balanced, deepest}
 use Rattle.generation.specs.Generations.{next, Part, adds, stops, found, added, worked, unless, followed, fault_of, generated}
 use Rattle.generation.specs.Stream.{Table, passed, Look, neighbour, closed, ended, spent, scan, turn_with, turn_by, turn, streamed, onward}
-use Rattle.generation.specs.Laws.{Tidy, GoesOn, StaysLawful}
+use Rattle.generation.specs.Laws.{Tidy, StaysLawful}
+use Rattle.generation.specs.Goes.{GoesOn}
 use Rattle.generation.proofs.Causes.{SmallOutcome, small_cause}
 use Rattle.generation.proofs.Agreement.{after_plain, streams_agree}
 

@@ -19,3 +19,4 @@ pub mod Answered
 pub mod Noting
 pub mod Telling
 pub mod Stepping
+pub mod Drawing

@@ -14,7 +14,7 @@ use Rattle.generation.specs.Rewriting.{pending, telling, in_all, left_in, Turned
 use Rattle.generation.proofs.Turning.{turn_adds, turn_stops}
 
 module _ (r r' : Rewriter) (m : Meaning) (x : Module) (rest : List Module) (none : pending r ≡ []) (no_fault : r.fault ≡ None) (hand : in_window r.window ≡ x ∷ rest) where
-  abbrev come : List Symbol
+  abbrev pub come : List Symbol
   come = map symbol_of rest ++ m.told.modules
 
   abbrev end : Ending
@@ -33,7 +33,7 @@ module _ (r r' : Rewriter) (m : Meaning) (x : Module) (rest : List Module) (none
       (telling (no_fault k) r.book m.generation (record { modules = map symbol_of (hand k) ++ m.told.modules; ending = end }) r.produced r.place d (table r.lefts))
 
   pub turned_on : (p : Part) → its_part ≡ p → Turned r x p r' → left_in r' m ≡ left_in r m
-  turned_on (stops f) e (fault-is, pends, opens) =
+  turned_on (stops f) e (fault-is, pends, opens, windows, numbers) =
       (λ k.
       in_all m.generation (opens k).brackets ((pends ∙ none) k)
       (telling (fault-is k) r'.book m.generation (flow r'.window m) r'.produced r'.place r'.window.first.brackets (table r'.lefts)))

@@ -3,7 +3,7 @@ use Rattle.std.proofs.Common.{◌≡◌, ℕ, ◌≤◌, true, not, ◌&&◌, eq
 use Rattle.std.proofs.lemmas.Bool.Decides.{nat_tests}
 use Rattle.std.proofs.lemmas.Bool.{and_parts, and_from, eqb-true}
 use Rattle.word.specs.Symbols.{Symbol, is_close}
-use Rattle.word.specs.Words.{Ending, after, may_stand, nested}
+use Rattle.word.specs.Words.{after, may_stand}
 use Rattle.generation.specs.Spans.{spans}
 
 pub no_span : (d : ℕ) → d ≤ 32 → spans d [] d ≡ true
@@ -46,11 +46,3 @@ one_more d (x ∷ w) e s h c low =
     let p = and_parts (leb d 32) _ h in
     let q = and_parts (not (is_close x.letter && eqb d 0)) _ p.1 in
     and_from (leb d 32) _ p.0 (and_from _ _ q.0 (one_more (after d x) w e s q.1 c low))
-
--- what is nested behind modules is nested with them
-pub span_nested : (d : ℕ) (w : List Symbol) (e : ℕ) (v : List Symbol) (x : Ending) → spans d w e ≡ true → nested e v x ≡ true → nested d (w ++ v) x ≡ true
-span_nested d [] e v x h n = let p = and_parts (leb d 32) (eqb d e) h in subst (λ y. nested y v x ≡ true) (sym (eqb-true d e p.1)) n
-span_nested d (s ∷ w) e v x h n =
-    let p = and_parts (leb d 32) _ h in
-    let q = and_parts (not (is_close s.letter && eqb d 0)) _ p.1 in
-    and_from (leb d 32) _ p.0 (and_from _ _ q.0 (span_nested (after d s) w e v x q.1 n))

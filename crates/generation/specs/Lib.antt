@@ -4,6 +4,7 @@ pub mod Generations
 pub mod Growths
 pub mod Laws
 pub mod Stream
+pub mod Goes
 pub mod Agreement
 pub mod Spans
 pub mod Windows
@@ -11,3 +12,4 @@ pub mod Looking
 pub mod Bounds
 pub mod Tables
 pub mod Rewriting
+pub mod Lawful

@@ -124,4 +124,4 @@ pub record Passes (r : Rewriter) (x : Module) (v : List Symbol) (r' : Rewriter) 
 -- what follows from the part of the module x in hand
 abbrev pub Turned : Rewriter → Module → Part → Rewriter → Type 0
 Turned r x (adds v) r' = Passes r x v r'
-Turned r x (stops f) r' = (r'.fault ≡ Some f) × (pending r' ≡ pending r) × (r'.opened ≡ r.opened)
+Turned r x (stops f) r' = (r'.fault ≡ Some f) × (pending r' ≡ pending r) × (r'.opened ≡ r.opened) × (r'.window ≡ r.window) × (r'.generation ≡ r.generation)

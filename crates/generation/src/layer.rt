@@ -6,6 +6,7 @@ use word::source::Source;
 
 pub(crate) mod ahead;
 pub(crate) mod sifted;
+pub mod source;
 
 /// A generation of the word below. It reads from below no further ahead than the module in hand needs.
 #[derive(Drop)]

@@ -2,7 +2,9 @@
 ghost use Rattle.std.specs.Prelude.{◌≡◌, ◌≤◌, true, map, length, drop};
 ghost use Rattle.word.specs.Records.{symbol_of};
 ghost use Rattle.books.specs.Few.{modules_in};
+ghost use Rattle.books.specs.Kinds.{closed_book};
 ghost use Rattle.generation.specs.Spans.{spans};
+ghost use Rattle.generation.specs.Goes.{GoesOnBy};
 ghost use Rattle.generation.specs.Bounds.{bounded};
 
 use super::lefts::Lefts;
@@ -29,8 +31,9 @@ pub struct Rewriter {
     place: u32,
     growth: Modules,
     told: usize,
-    opened: Depth,
-    fault: Option<Fault>,
+    pub(crate) opened: Depth,
+    pub(crate) fault: Option<Fault>,
+    ghost lawful: { GoesOnBy (closed_book book) },
     ghost few: { produced ≤ 16_000_000 },
     ghost inside: { place ≤ 16_000_000 },
     ghost counted: { length (drop told (modules_in growth)) ≤ produced },

@@ -32,6 +32,7 @@ invariant_of-self c =
     let fs = c.as_slice.result.now in
     let some : r.told < length fs = omega (arith, c.len.ensures, ap length c.as_slice.ensures) in
     record {
+      lawful = r.lawful;
       few = r.few;
       inside = r.inside;
       counted = rest_fewer r fs c.as_slice.ensures x some c.index-as_slice-self.is;

@@ -1,0 +1,70 @@
+-- Internal. What a generation has still to tell is lawful in every state, where what the source below means is.
+use Rattle.std.specs.Prelude.{◌≡◌, ℕ, true, not, ◌&&◌, List, [], ◌∷◌, ◌++◌, drop, map, Some, None, Option, ◌==◌, nat_le, refl}
+use lib.ListN.{length-append, length-map}
+use Rattle.std.proofs.Common.{arith, sym, subst}
+use Rattle.std.proofs.lemmas.Bool.{and_parts, and_from, eqb-true, le-leb}
+use Rattle.word.specs.declared.fault.Fault.{Fault}
+use Rattle.word.specs.declared.module.Module.{Module}
+use Rattle.word.specs.Symbols.{Symbol, is_close, valid}
+use Rattle.word.specs.Words.{Ending, Meaning, after, all_valid, nested, Lawful}
+use Rattle.word.specs.Records.{symbol_of}
+use Rattle.word.proofs.Sound.{is_valid}
+use Rattle.books.specs.Few.{modules_in}
+use Rattle.generation.specs.declared.rewriter.Rewriter.{Rewriter}
+use Rattle.generation.specs.Bounds.{bounded}
+use Rattle.generation.specs.Spans.{spans}
+use Rattle.generation.specs.Goes.{GoesOn}
+use Rattle.generation.specs.Tables.{table}
+use Rattle.generation.specs.Windows.{in_window, held, flow}
+use Rattle.generation.specs.Rewriting.{pending, telling, left_in}
+
+-- what is nested behind modules is nested with them
+pub span_nested : (d : ℕ) (w : List Symbol) (e : ℕ) (v : List Symbol) (x : Ending) → spans d w e ≡ true → nested e v x ≡ true → nested d (w ++ v) x ≡ true
+span_nested d [] e v x h n = let p = and_parts (nat_le d 32) (d == e) h in subst (λ y. nested y v x ≡ true) (sym (eqb-true d e p.1)) n
+span_nested d (s ∷ w) e v x h n =
+    let p = and_parts (nat_le d 32) _ h in
+    let q = and_parts (not (is_close s.letter && d == 0)) _ p.1 in
+    and_from (nat_le d 32) _ p.0 (and_from _ _ q.0 (span_nested (after d s) w e v x q.1 n))
+
+valid_append : (v w : List Symbol) → all_valid v ≡ true → all_valid w ≡ true → all_valid (v ++ w) ≡ true
+valid_append [] w a b = b
+valid_append (s ∷ v) w a b =
+    let parts = and_parts (valid s) (all_valid v) a in
+    and_from (valid s) (all_valid (v ++ w)) parts.0 (valid_append v w parts.1 b)
+
+-- modules of the code are valid
+all_are : (l : List Module) → all_valid (map symbol_of l) ≡ true
+all_are [] = refl
+all_are (m ∷ l) = and_from (valid (symbol_of m)) (all_valid (map symbol_of l)) (is_valid m) (all_are l)
+
+module _ (r : Rewriter) (m : Meaning) (joined : r.window.last.brackets ≡ m.opened) (l : Lawful m) where
+  -- what flows on nests
+  flows_nested : nested r.window.first.brackets (flow r.window m).modules m.told.ending ≡ true
+  flows_nested =
+      span_nested r.window.first.brackets (held r.window) r.window.last.brackets m.told.modules m.told.ending r.window.joined
+      (subst (λ d. nested d m.told.modules m.told.ending ≡ true) (sym joined) l.brackets)
+
+  tells_on : (f : Option Fault) → bounded f ≡ true → GoesOn r.produced r.window.first.brackets (telling f r.book m.generation (flow r.window m) r.produced r.place r.window.first.brackets (table r.lefts))
+  tells_on (Some f) b = record {
+    modules = refl;
+    brackets = le-leb r.window.first.brackets 32 r.window.first.shallow;
+    ending = b;
+    few = omega (arith, r.few);
+  }
+  tells_on None b =
+      r.lawful m.generation m.told.ending l.ending r.produced r.place r.window.first.brackets (table r.lefts) (flow r.window m).modules r.few r.inside
+      (valid_append (held r.window) m.told.modules (all_are (in_window r.window)) l.modules) flows_nested
+
+pub lawful_in : (r : Rewriter) (m : Meaning) → r.window.last.brackets ≡ m.opened → Lawful m → Lawful (left_in r m)
+lawful_in r m joined l =
+    let left = drop r.told (modules_in r.growth) in
+    let t = telling r.fault r.book m.generation (flow r.window m) r.produced r.place r.window.first.brackets (table r.lefts) in
+    let on : GoesOn r.produced r.window.first.brackets t = tells_on r m joined l r.fault r.bounds in
+    record {
+      modules = valid_append (pending r) t.modules (all_are left) on.modules;
+      brackets = span_nested r.opened.brackets (pending r) r.window.first.brackets t.modules t.ending r.joined on.brackets;
+      ending = on.ending;
+      few = omega (arith, length-append (pending r) t.modules, length-map left symbol_of, r.counted, on.few);
+      shallow = r.opened.shallow;
+      generation = omega arith;
+    }
