@@ -30,7 +30,7 @@ pub struct Pruner<S: Source + Drop> {
 impl<S: Source + Drop> Pruner<S> {
     /// A pruner over a source tells the pruned word of that source.
     pub fn new(below: S) -> Pruner<S>
-        ensures { left_in result.state (S.Source.means result.below) ≡ pruned_meaning (S.Source.means below) }
+        ensures { ⟦<Pruner<S> as Source>⟧.means result ≡ pruned_meaning (S.Source.means below) }
     {
         Pruner {
             below,

@@ -16,7 +16,7 @@ use word::source::Source;
 impl<S: Source + Drop> Generation<S> {
     /// A generation over a source tells the word below rewritten by the book.
     pub fn new(below: S, book: ClosedBook) -> Generation<S>
-        ensures { left_in result.inner (S.Source.means result.below) ≡ generated (closed_book book) (S.Source.means below) }
+        ensures { ⟦<Generation<S> as Source>⟧.means result ≡ generated (closed_book book) (S.Source.means below) }
     {
         let generation = below.generation();
         let depth = below.open_brackets();

@@ -1,0 +1,2 @@
+pub mod Stages
+pub mod Piles
