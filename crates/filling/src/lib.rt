@@ -2,4 +2,5 @@
 #![tactic(auto)]
 
 pub mod fill;
+pub mod order;
 pub mod refusal;

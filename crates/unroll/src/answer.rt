@@ -3,10 +3,9 @@ ghost use Rattle.std.specs.Prelude.{◌≡◌, [], Some, OnOk};
 ghost use Rattle.std.specs.Fmt.{WritesOnOk};
 ghost use Rattle.unroll.specs.Printed.{told_text, answer_text};
 
-use super::order::Order;
+use filling::order::Order;
 use filling::refusal::JobRefusal;
-use pruner::Pruner;
-use seed::seed::Seed;
+use pile::pile::pile_of;
 use std::fmt;
 use word::source::Source;
 
@@ -24,7 +23,7 @@ fn show_word<S: Source, W: fmt::Write>(source: &mut S, f: &mut fmt::Formatter<W>
     }
 }
 
-/// The answer to a job, by what is done with it.
+/// The answer to a job, by what it asks for.
 #[derive(Clone, Copy)]
 pub struct Answer<'a> {
     pub order: Result<Order<'a>, JobRefusal>,
@@ -36,8 +35,7 @@ impl fmt::Display for Answer<'_> {
     fn fmt<W: fmt::Write>(&self, f: &mut fmt::Formatter<W>) -> fmt::Result {
         match self.order {
             Err(refusal) => writeln!(f, "refused {refusal}"),
-            Ok(Order::NotYet) => writeln!(f, "not yet"),
-            Ok(Order::Unroll(text)) => show_word(&mut Pruner::new(Seed::new(text)), f),
+            Ok(order) => show_word(&mut pile_of(order.generations, order.seed, order.book), f),
         }
     }
 }

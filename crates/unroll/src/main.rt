@@ -2,13 +2,12 @@
 #![tactic(auto)]
 
 mod answer;
-mod order;
 #[cfg(test)]
 mod tests;
 
 use answer::Answer;
+use filling::order::order_of;
 use job::job::LONGEST;
-use order::order_of;
 use std::io;
 use std::io::{BufWriter, Read, Write};
 
