@@ -76,7 +76,7 @@ fn vines(rt: HostRuntime) -> Result<(), Fail> {
     answers(
         &rt,
         heap,
-        b"6\nA(6)\n1: A(x) ? x > 1 -> F(2*x)[+B(x-1)][-B(x-1)]A(x-1)\n2: A(x) ? x <= 1 -> F\n3: B(x) ? x > 2 & x != 4 -> F(x)[+B(x/2)]B(x-2)\n4: B(x) ? x <= 2 -> F(x)\n5: B(x) ? x = 4 -> F(4)%\n",
+        b"6\nA(6)\n1: A(x) ? x > 1 -> F(2*x)[+B(x-1)][-B(x-1)]A(x-1)\n2: A(x) ? x <= 1 -> F\n3: B(x) ? x > 2 & x != 4 -> F(x)[+B(x/2)]B(x-2)\n4: B(x) ? x <= 2 -> F(x)\n5: B(x) ? x = 4 -> F(4)%[+B(1)]B(3)\n",
         "F(12)[+F(5)[+F(2)]F(3)[+F(1)]F(1)][-F(5)[+F(2)]F(3)[+F(1)]F(1)]F(10)[+F(4)][-F(4)]F(8)[+F(3)[+F(1)]F(1)][-F(3)[+F(1)]F(1)]F(6)[+F(2)][-F(2)]F(4)[+F(1)][-F(1)]F\nend clean\n",
     )?;
     answers(
