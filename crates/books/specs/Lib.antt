@@ -8,6 +8,7 @@ pub mod Stored
 pub mod Making
 pub mod Order
 pub mod Kept
+pub mod Index
 pub mod Contents
 pub mod Kinds
 pub mod Few

@@ -6,6 +6,7 @@ pub mod code_places;
 pub mod contents;
 pub mod growth;
 pub mod ignored;
+pub mod letter_index;
 pub mod modules;
 pub mod open_book;
 pub mod rule;

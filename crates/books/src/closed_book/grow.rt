@@ -10,18 +10,20 @@ ghost use Rattle.books.specs.Kinds.{closed_book};
 
 use super::super::contents::Contents;
 use super::super::growth::Growth;
+use super::super::letter_index::LetterIndex;
 use super::super::site::Site;
 use super::ClosedBook;
 use expr::computed::Cause;
 use word::module::Module;
 
-// An open and a closed book are two types by a rule of the project: what a closed one answers is handed on from its contents.
+// An open and a closed book are two types by a rule of the project: which letters are ignored is handed on from the contents.
 impl ClosedBook {
     // The closed book of some contents.
     pub(crate) fn holding(contents: Contents) -> ClosedBook
         ensures { closed_book result ≡ book_in contents }
     {
-        ClosedBook { contents }
+        let index = LetterIndex::new(contents.rules());
+        ClosedBook { contents, index }
     }
 
     /// What becomes of a module between its neighbours: it grows to the modules of a successor, or a fault ends the word, or
@@ -31,14 +33,31 @@ impl ClosedBook {
         ensures value { outcome_of result ≡ becomes (option_map symbol_of site.left) (symbol_of site.module) (option_map symbol_of site.right) (closed_book self.now).rules }
         ensures label { Label (closed_book self.now).rules (option_map symbol_of site.left) (symbol_of site.module) (option_map symbol_of site.right) }
     {
-        self.contents.becomes(site)
+        // Only rules for the module's letter are tried, as no other fits.
+        let rules = self.contents.rules();
+        let mut at = self.index.first(site.module.letter);
+        while at < rules.len() {
+            if let Some(growth) = rules[at].try_at(self.contents.code(), site)? {
+                return Ok(Some(growth));
+            }
+            at = self.index.next(at);
+        }
+        Ok(None)
     }
 
     /// Whether a rule for this letter and so many parameters names a neighbour on the right.
     pub fn looks_ahead(&self, symbol: Module) -> bool
         ensures { result ≡ looks_ahead (symbol_of symbol) (closed_book self.now).rules }
     {
-        self.contents.looks_ahead(symbol)
+        let rules = self.contents.rules();
+        let mut at = self.index.first(symbol.letter);
+        while at < rules.len() {
+            if rules[at].looks_right(symbol) {
+                return true;
+            }
+            at = self.index.next(at);
+        }
+        false
     }
 
     /// Whether a letter is ignored where neighbours are looked for.
