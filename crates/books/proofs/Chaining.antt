@@ -1,19 +1,21 @@
 -- Rules of one letter, one after the other.
-use Rattle.std.proofs.Common.{◌≡◌, ℕ, ◌+◌, ◌<◌, ◌≤◌, Bool, true, false, cond, not, ◌&&◌, ◌||◌, eqb, List, [], ◌∷◌, length, get_or, set, drop, is_some, Some, Option, sym, refl, ap, ◌∙◌, subst, arith, one-add, eq-eqb, get_or-set_same, get_or-set_other}
-use borrow.Author.Tests.{eqb-true, eqb-false, ne_eqb}
+use Rattle.std.proofs.Common.{◌≡◌, ℕ, ◌+◌, ◌<◌, ◌≤◌, Bool, true, false, cond, not, ◌&&◌, ◌||◌, eqb, ltb, leb, List, [], ◌∷◌, length, get_or, set, drop, is_some, Some, Option, sym, refl, ap, ◌∙◌, subst, arith, one-add, eq-eqb, get_or-set_same, get_or-set_other}
+use borrow.Author.Tests.{eqb-true, eqb-false, ne_eqb, ltb-true, ltb-false}
+use Rattle.std.proofs.lemmas.Bool.{and_parts, and_from}
 use Rattle.std.specs.List.{position_or_len}
-use Rattle.std.proofs.lemmas.List.{drop_more, drop_all, drop-drop, drop-map, get_or-drop, length-drop, length-map}
+use Rattle.std.proofs.lemmas.List.{drop_more, drop_all, drop-drop, drop-map, get_or-drop, get_or-map, length-drop, length-map}
 use Rattle.std.proofs.lemmas.List.Sums.{passes_at_first}
 use Rattle.word.specs.Symbols.{Symbol}
 use Rattle.expr.specs.declared.code.Code.{Code}
 use Rattle.book.specs.Rules.{Rule, agrees, beside}
-use Rattle.book.specs.Winners.{not_false, says, winner}
-use Rattle.books.specs.Ahead.{looks_ahead}
+use Rattle.book.specs.Winners.{not_false, says, decides, winner}
+use Rattle.books.specs.Ahead.{looks_right, looks_ahead}
 use Rattle.books.specs.Outcomes.{by_rule, becomes}
+use Rattle.books.specs.Kept.{within}
 use Rattle.books.specs.Stored.{rule_in, rules_in}
 use Rattle.books.specs.declared.rule.Rule.{Rule as StoredRule}
-use Rattle.books.specs.declared.letter_index.LetterIndex.{LetterIndex}
-use Rattle.books.specs.Index.{letter_of, letters, next_with, Firsts, Nexts}
+use Rattle.books.proofs.Rows.{item_at}
+use Rattle.books.specs.Index.{letter_of, letters, with_letter, next_with}
 
 pub counted : (rs : List StoredRule) → length (letters rs) ≡ length rs
 counted rs = length-map rs letter_of
@@ -57,53 +59,80 @@ module _ (cs : List ℕ) where
             let apart : j ≡ i → ⊥ = eqb-false j i q in
             get_or-set_other next i j k 0 apart ∙ f j (omega arith) h
 
--- at a rule of the letter c or past the end, with all of f still to come
-abbrev pub Led : {A : Type 0} → (List StoredRule → A) → ℕ → List StoredRule → ℕ → Type 0
-Led f c rs at = (f (drop at rs) ≡ f rs) × (at < length rs → get_or (letters rs) at 0 ≡ c)
-
--- what does not depend on rules of other letters than c
-module _ {A : Type 0} (f : List StoredRule → A) (c : ℕ) (others : (r : StoredRule) (rs : List StoredRule) → (letter_of r ≡ c → ⊥) → f (r ∷ rs) ≡ f rs) where
-  skips : (rs : List StoredRule) → f (drop (position_or_len (λ d. eqb d c) (letters rs)) rs) ≡ f rs
+-- the rules for a letter, from where it stands next
+module _ (c : ℕ) where
+  skips : (rs : List StoredRule) → with_letter c (drop (position_or_len (λ d. eqb d c) (letters rs)) rs) ≡ with_letter c rs
   skips [] = refl
   skips (r ∷ rs) = go (eqb (letter_of r) c) refl (skips rs)
     where
       p : ℕ
       p = position_or_len (λ d. eqb d c) (letters rs)
 
-      go : (t : Bool) → eqb (letter_of r) c ≡ t → f (drop p rs) ≡ f rs → f (drop (cond (not t) (1 + p) 0) (r ∷ rs)) ≡ f (r ∷ rs)
-      go true e ih = refl
-      go false e ih = ap (λ k. f (drop k (r ∷ rs))) (one-add p) ∙ ih ∙ sym (others r rs (eqb-false (letter_of r) c e))
+      go : (t : Bool) → eqb (letter_of r) c ≡ t → with_letter c (drop p rs) ≡ with_letter c rs → with_letter c (drop (cond (not t) (1 + p) 0) (r ∷ rs)) ≡ cond t (r ∷ with_letter c rs) (with_letter c rs)
+      go true e ih = ap (λ (t : Bool). cond t (r ∷ with_letter c rs) (with_letter c rs)) e
+      go false e ih = ap (λ k. with_letter c (drop k (r ∷ rs))) (one-add p) ∙ ih
 
-  module _ (rs : List StoredRule) where
-    led : (i at : ℕ) → at ≡ next_with c i (letters rs) → f (drop i rs) ≡ f rs → Led f c rs at
-    led i at e h =
-        let k = position_or_len (λ d. eqb d c) (letters (drop i rs)) in
-        let here : at ≡ i + k = e ∙ ap (λ (l : List ℕ). i + position_or_len (λ d. eqb d c) l) (drop-map letter_of i rs) in (
-          ap (λ n. f (drop n rs)) here ∙ ap f (sym (drop-drop k i rs)) ∙ skips (drop i rs) ∙ h,
-          λ l. ap (λ n. get_or (letters rs) n 0) e ∙ there (letters rs) c i (omega (arith, counted rs)),
-        )
+  pub from_next : (rs : List StoredRule) (i at : ℕ) → at ≡ next_with c i (letters rs) → with_letter (get_or (letters rs) at 0) (drop at rs) ≡ with_letter c (drop i rs)
+  from_next rs i at e = go (ltb at (length rs)) refl
+    where
+      skipped : with_letter c (drop at rs) ≡ with_letter c (drop i rs)
+      skipped =
+          let k = position_or_len (λ d. eqb d c) (letters (drop i rs)) in
+          let here : at ≡ i + k = e ∙ ap (λ (l : List ℕ). i + position_or_len (λ d. eqb d c) l) (drop-map letter_of i rs) in
+          ap (λ n. with_letter c (drop n rs)) here ∙ ap (with_letter c) (sym (drop-drop k i rs)) ∙ skips (drop i rs)
 
-    pub led_first : (x : LetterIndex) → Firsts (letters rs) x → c < 256 → (at : ℕ) → at ≡ get_or x.first c 0 → Led f c rs at
-    led_first x fs w at e = led 0 at (e ∙ fs c w) refl
+      go : (t : Bool) → ltb at (length rs) ≡ t → with_letter (get_or (letters rs) at 0) (drop at rs) ≡ with_letter c (drop i rs)
+      go true l =
+          let inside = ltb-true at (length rs) l in
+          ap (λ d. with_letter d (drop at rs)) (ap (λ n. get_or (letters rs) n 0) e ∙ there (letters rs) c i (omega (arith, counted rs))) ∙ skipped
+      go false l =
+          let none = drop_all at rs (ltb-false at (length rs) l) in
+          ap (with_letter (get_or (letters rs) at 0)) none ∙ sym (ap (with_letter c) none) ∙ skipped
 
-    pub led_next : (x : LetterIndex) → Nexts (letters rs) x → (i at : ℕ) → i < length rs → Led f c rs i → f (drop i rs) ≡ f (drop (i + 1) rs) → at ≡ get_or x.next i 0 → Led f c rs at
-    led_next x ns i at l h same e =
-        let own : get_or (letters rs) i 0 ≡ c = h.1 l in
-        led (i + 1) at (e ∙ ns i (omega (arith, counted rs)) ∙ ap (λ d. next_with d (i + 1) (letters rs)) own) (sym same ∙ h.0)
+-- the rule at a position, then those from the next for its letter on
+pub one_taken : (rs : List StoredRule) (i at : ℕ) (q : StoredRule) → i < length rs → q ≡ get_or rs i q → at ≡ next_with (get_or (letters rs) i 0) (i + 1) (letters rs) → with_letter (get_or (letters rs) i 0) (drop i rs) ≡ q ∷ with_letter (get_or (letters rs) at 0) (drop at rs)
+one_taken rs i at q l is e =
+    let c = get_or (letters rs) i 0 in
+    let own : letter_of q ≡ c = ap letter_of is ∙ sym (get_or-map letter_of rs i q 0 l) in
+    let more = with_letter c (drop (i + 1) rs) in
+    ap (with_letter c) (item_at rs i q l is)
+    ∙ ap (λ (t : Bool). cond t (q ∷ more) more) (eq-eqb (letter_of q) c own)
+    ∙ ap (λ (qs : List StoredRule). q ∷ qs) (sym (from_next c rs (i + 1) at e))
 
--- the next rule of a letter stands behind
-pub onward : (rs : List StoredRule) (x : LetterIndex) → Nexts (letters rs) x → (i at : ℕ) → i < length rs → at ≡ get_or x.next i 0 → i < at
-onward rs x ns i at l e = omega (arith, e, ns i (omega (arith, counted rs)))
+-- code within its places stays so where some rules are left out
+pub some_within : (n c : ℕ) (rs : List StoredRule) → within n rs ≡ true → within n (with_letter c rs) ≡ true
+some_within n c [] h = refl
+some_within n c (r ∷ rs) h =
+    let p = and_parts (leb (r.start + r.size) n) (within n rs) h in
+    go (eqb (letter_of r) c) p.0 (some_within n c rs p.1)
+  where
+    go : (t : Bool) → leb (r.start + r.size) n ≡ true → within n (with_letter c rs) ≡ true → within n (cond t (r ∷ with_letter c rs) (with_letter c rs)) ≡ true
+    go true q ih = and_from (leb (r.start + r.size) n) (within n (with_letter c rs)) q ih
+    go false q ih = ih
 
--- a rule of another letter than a module's has no say there
+-- rules for other letters than a module's have no say there
 module _ (cs : List Code) (s : Symbol) where
-  disagrees : (q : StoredRule) → (letter_of q ≡ s.letter → ⊥) → agrees (rule_in cs q).predecessor s ≡ false
-  disagrees q apart = ap (λ (t : Bool). t && eqb (length (rule_in cs q).predecessor.names) (length s.params)) (ne_eqb (letter_of q) s.letter apart)
+  disagrees : (q : StoredRule) → eqb (letter_of q) s.letter ≡ false → agrees (rule_in cs q).predecessor s ≡ false
+  disagrees q e = ap (λ (t : Bool). t && eqb (length (rule_in cs q).predecessor.names) (length s.params)) e
 
-  pub other_ahead : (q : StoredRule) (qs : List StoredRule) → (letter_of q ≡ s.letter → ⊥) → looks_ahead s (rules_in cs (q ∷ qs)) ≡ looks_ahead s (rules_in cs qs)
-  other_ahead q qs apart = ap (λ (t : Bool). (t && is_some (rule_in cs q).behind) || looks_ahead s (rules_in cs qs)) (disagrees q apart)
+  pub only_ahead : (rs : List StoredRule) → looks_ahead s (rules_in cs (with_letter s.letter rs)) ≡ looks_ahead s (rules_in cs rs)
+  only_ahead [] = refl
+  only_ahead (q ∷ qs) = go (eqb (letter_of q) s.letter) refl (only_ahead qs)
+    where
+      go : (t : Bool) → eqb (letter_of q) s.letter ≡ t → looks_ahead s (rules_in cs (with_letter s.letter qs)) ≡ looks_ahead s (rules_in cs qs) → looks_ahead s (rules_in cs (cond t (q ∷ with_letter s.letter qs) (with_letter s.letter qs))) ≡ looks_ahead s (rules_in cs (q ∷ qs))
+      go true e ih = ap (λ (t : Bool). looks_right s (rule_in cs q) || t) ih
+      go false e ih = ih ∙ sym (ap (λ (t : Bool). (t && is_some (rule_in cs q).behind) || looks_ahead s (rules_in cs qs)) (disagrees q e))
 
-  pub other_becomes : (l r : Option Symbol) (q : StoredRule) (qs : List StoredRule) → (letter_of q ≡ s.letter → ⊥) → becomes l s r (rules_in cs (q ∷ qs)) ≡ becomes l s r (rules_in cs qs)
-  other_becomes l r q qs apart =
-      let u : Rule = rule_in cs q in
-      ap (λ (t : Bool). by_rule l s r (cond ((t && (beside u.before l && beside u.behind r)) && not_false (says l s r u)) (Some u) (winner l s r (rules_in cs qs)))) (disagrees q apart)
+  module _ (l r : Option Symbol) where
+    only_winner : (rs : List StoredRule) → winner l s r (rules_in cs (with_letter s.letter rs)) ≡ winner l s r (rules_in cs rs)
+    only_winner [] = refl
+    only_winner (q ∷ qs) = go (eqb (letter_of q) s.letter) refl (only_winner qs)
+      where
+        go : (t : Bool) → eqb (letter_of q) s.letter ≡ t → winner l s r (rules_in cs (with_letter s.letter qs)) ≡ winner l s r (rules_in cs qs) → winner l s r (rules_in cs (cond t (q ∷ with_letter s.letter qs) (with_letter s.letter qs))) ≡ winner l s r (rules_in cs (q ∷ qs))
+        go true e ih = ap (cond (decides l s r (rule_in cs q)) (Some (rule_in cs q))) ih
+        go false e ih =
+            let u : Rule = rule_in cs q in
+            ih ∙ sym (ap (λ (t : Bool). cond ((t && (beside u.before l && beside u.behind r)) && not_false (says l s r u)) (Some u) (winner l s r (rules_in cs qs))) (disagrees q e))
+
+    pub only_becomes : (rs : List StoredRule) → becomes l s r (rules_in cs (with_letter s.letter rs)) ≡ becomes l s r (rules_in cs rs)
+    only_becomes rs = ap (by_rule l s r) (only_winner rs)

@@ -1,12 +1,16 @@
 -- The rules of a book by letter. Internal.
 use Rattle.std.specs.Prelude.{◌≡◌, ℕ, ◌+◌, ◌<◌, List, map, length, drop, slice_index, ◌==◌}
-use Rattle.std.specs.List.{position_or_len}
+use Rattle.std.specs.List.{filter, position_or_len}
 use Rattle.books.specs.declared.rule.Rule.{Rule}
 use Rattle.books.specs.declared.letter_index.LetterIndex.{LetterIndex}
 
 -- the letter that a rule is for
 abbrev pub letter_of : Rule → ℕ
 letter_of r = r.head.predecessor.letter
+
+-- the rules for the letter c
+abbrev pub with_letter : ℕ → List Rule → List Rule
+with_letter c rs = filter (λ r. letter_of r == c) rs
 
 abbrev pub letters : List Rule → List ℕ
 letters rs = map letter_of rs

@@ -9,6 +9,7 @@ pub mod Making
 pub mod Order
 pub mod Kept
 pub mod Index
+pub mod Walking
 pub mod Contents
 pub mod Kinds
 pub mod Few

@@ -1,7 +1,7 @@
 // The rules of a book by letter.
 ghost use Rattle.std.specs.Prelude.{◌≡◌, length};
 
-pub mod chain;
+pub mod make;
 
 /// For each letter the position of the first rule for it, and for each rule that of the next rule for the same letter. Where there
 /// is none, the number of rules.

@@ -11,4 +11,5 @@ pub mod modules;
 pub mod open_book;
 pub mod rule;
 pub mod rule_list;
+pub mod rules_for;
 pub mod site;

@@ -7,10 +7,14 @@ ghost use Rattle.books.specs.Label.{Label};
 ghost use Rattle.books.specs.Contents.{book_in};
 ghost use Rattle.books.specs.Grown.{outcome_of};
 ghost use Rattle.books.specs.Kinds.{closed_book};
+ghost use Rattle.books.specs.Stored.{listed};
+ghost use Rattle.books.specs.Index.{with_letter};
+ghost use Rattle.books.specs.Walking.{to_come};
 
 use super::super::contents::Contents;
 use super::super::growth::Growth;
 use super::super::letter_index::LetterIndex;
+use super::super::rules_for::RulesFor;
 use super::super::site::Site;
 use super::ClosedBook;
 use expr::computed::Cause;
@@ -26,6 +30,13 @@ impl ClosedBook {
         ClosedBook { contents, index }
     }
 
+    // The rules for a letter. No other rule fits a module of that letter.
+    fn rules_for(&self, letter: u8) -> RulesFor<'_>
+        ensures { to_come result ≡ with_letter letter (listed self.now.contents.rules) }
+    {
+        RulesFor::new(letter, self.contents.rules(), &self.index)
+    }
+
     /// What becomes of a module between its neighbours: it grows to the modules of a successor, or a fault ends the word, or
     /// there is none and it stays as it is. Of the rules that fit, the one with more neighbours grows; then left before right;
     /// then the lower number.
@@ -33,14 +44,11 @@ impl ClosedBook {
         ensures value { outcome_of result ≡ becomes (option_map symbol_of site.left) (symbol_of site.module) (option_map symbol_of site.right) (closed_book self.now).rules }
         ensures label { Label (closed_book self.now).rules (option_map symbol_of site.left) (symbol_of site.module) (option_map symbol_of site.right) }
     {
-        // Only rules for the module's letter are tried, as no other fits.
-        let rules = self.contents.rules();
-        let mut at = self.index.first(site.module.letter);
-        while at < rules.len() {
-            if let Some(growth) = rules[at].try_at(self.contents.code(), site)? {
+        // A loop, since a fault ends it by `?`: `find_map` over what `try_at` answers, turned inside out, is no plainer.
+        for rule in self.rules_for(site.module.letter) {
+            if let Some(growth) = rule.try_at(self.contents.code(), site)? {
                 return Ok(Some(growth));
             }
-            at = self.index.next(at);
         }
         Ok(None)
     }
@@ -49,15 +57,8 @@ impl ClosedBook {
     pub fn looks_ahead(&self, symbol: Module) -> bool
         ensures { result ≡ looks_ahead (symbol_of symbol) (closed_book self.now).rules }
     {
-        let rules = self.contents.rules();
-        let mut at = self.index.first(symbol.letter);
-        while at < rules.len() {
-            if rules[at].looks_right(symbol) {
-                return true;
-            }
-            at = self.index.next(at);
-        }
-        false
+        self.rules_for(symbol.letter)
+            .any(|rule| rule.looks_right(symbol))
     }
 
     /// Whether a letter is ignored where neighbours are looked for.
