@@ -3,6 +3,7 @@ pub mod Sorting
 pub mod Placing
 pub mod Loading
 pub mod Winning
+pub mod Chaining
 pub mod Growing
 pub mod Trying
 pub mod Tidy

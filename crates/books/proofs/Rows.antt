@@ -6,10 +6,6 @@ use Rattle.std.proofs.lemmas.List.{drop_more, drop-take, take-take}
 pub item_at : {A : Type 0} (xs : List A) (i : ℕ) (x : A) → i < length xs → x ≡ get_or xs i x → drop i xs ≡ x ∷ drop (i + 1) xs
 item_at {A = A} xs i x h e = drop_more xs i x h ∙ ap (λ (y : A). y ∷ drop (i + 1) xs) (sym e)
 
--- the same of a list that is lent
-pub item_in : {A : Type 0} (fs rs : List A) → fs ≡ rs → (i : ℕ) (x : A) → i < length fs → x ≡ get_or fs i x → drop i rs ≡ x ∷ drop (i + 1) rs
-item_in {A = A} fs rs e i x h q = sym (ap (drop i) e) ∙ item_at fs i x h q ∙ ap (λ (l : List A). x ∷ drop (i + 1) l) e
-
 module _ {A : Type 0} (row : List A) (used : ℕ) where
   length_held : {n : ℕ} → length row ≡ n → used ≤ n → length (take used row) ≡ used
   length_held w s = length-take-le used row (omega arith)

@@ -1,26 +1,13 @@
--- Rules tried one after the other.
-use Rattle.std.proofs.Common.{◌≡◌, ℕ, zero, suc, ◌+◌, ◌≤◌, true, false, ◌&&◌, leb, List, [], ◌∷◌, drop, Option, sym, ap, ◌∙◌, subst, leb-true}
+-- A rule tried at a module.
+use Rattle.std.proofs.Common.{◌≡◌, ℕ, true, false, ◌&&◌, Option, sym, ap, ◌∙◌}
 use mathlib.Core.Path.{fun_ext}
-use Rattle.std.proofs.lemmas.Bool.{and_parts, and_from}
+use Rattle.std.proofs.lemmas.Bool.{and_from}
 use Rattle.word.specs.Symbols.{Symbol}
 use Rattle.expr.specs.Values.{Env, Verdict, passes, fails, faults, guard}
 use Rattle.book.specs.Rules.{Rule, names_at}
-use Rattle.books.specs.declared.rule.Rule.{Rule as StoredRule}
 use Rattle.book.specs.Winners.{not_false, says, decides}
 use Rattle.book.specs.Winners.{candidate}
 use Rattle.books.specs.Outcomes.{Outcome, fault, successor, by_verdict}
-use Rattle.books.specs.Kept.{within}
-
-pub within_at : (n : ℕ) (rs : List StoredRule) → within n rs ≡ true → (i : ℕ) (r : StoredRule) (qs : List StoredRule) → drop i rs ≡ r ∷ qs → r.start + r.size ≤ n
-within_at n rs h i r qs e = first (subst (λ (l : List StoredRule). within n l ≡ true) e (rest i rs h))
-  where
-    rest : (k : ℕ) (l : List StoredRule) → within n l ≡ true → within n (drop k l) ≡ true
-    rest zero l g = g
-    rest (suc k) [] g = g
-    rest (suc k) (x ∷ l) g = rest k l (and_parts (leb (x.start + x.size) n) (within n l) g).1
-
-    first : within n (r ∷ qs) ≡ true → r.start + r.size ≤ n
-    first g = leb-true (r.start + r.size) n (and_parts (leb (r.start + r.size) n) (within n qs) g).0
 
 module _ (l : Option Symbol) (s : Symbol) (r : Option Symbol) where
   module _ (u : Rule) (g : Env) (same : (x : ℕ) → g x ≡ names_at l s r u x) (fits : candidate l s r u ≡ true) where

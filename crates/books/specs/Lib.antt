@@ -8,6 +8,8 @@ pub mod Stored
 pub mod Making
 pub mod Order
 pub mod Kept
+pub mod Index
+pub mod Walking
 pub mod Contents
 pub mod Kinds
 pub mod Few

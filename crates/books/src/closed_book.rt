@@ -1,5 +1,9 @@
 // A book that grows.
+ghost use Rattle.books.specs.Stored.{listed};
+ghost use Rattle.books.specs.Index.{letters, Firsts, Nexts};
+
 use super::contents::Contents;
+use super::letter_index::LetterIndex;
 
 pub mod grow;
 
@@ -7,4 +11,7 @@ pub mod grow;
 #[derive(Clone, Copy)]
 pub struct ClosedBook {
     contents: Contents,
+    index: LetterIndex,
+    ghost firsts: { Firsts (letters (listed contents.rules)) index },
+    ghost nexts: { Nexts (letters (listed contents.rules)) index },
 }

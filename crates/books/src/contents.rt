@@ -8,8 +8,8 @@ use super::code_places::CodePlaces;
 use super::ignored::Ignored;
 use super::rule_list::RuleList;
 
-pub mod grow;
 pub mod load;
+pub mod read;
 
 /// Code, rules in the order in which they are tried, and ignored letters.
 #[derive(Clone, Copy)]

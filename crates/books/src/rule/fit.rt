@@ -3,6 +3,7 @@ ghost use Rattle.std.specs.Prelude.{◌≡◌, ℕ};
 ghost use Rattle.std.specs.Option.{option_map};
 ghost use Rattle.word.specs.Records.{symbol_of};
 ghost use Rattle.expr.specs.Records.{env_of};
+ghost use Rattle.books.specs.Index.{letter_of};
 ghost use Rattle.books.specs.Trying.{head_fits, head_names, head_looks_right};
 
 use super::super::site::Site;
@@ -12,6 +13,13 @@ use expr::names::Names;
 use word::module::Module;
 
 impl Rule {
+    // The letter that the rule is for.
+    pub(crate) fn letter(&self) -> u8
+        ensures { result ≡ letter_of self.now }
+    {
+        self.head.predecessor.letter
+    }
+
     // Whether the forms agree with a module and its neighbours.
     pub(crate) fn fits(&self, site: Site) -> bool
         ensures { result ≡ head_fits (option_map symbol_of site.left) (symbol_of site.module) (option_map symbol_of site.right) self.now.head }
