@@ -1,8 +1,4 @@
-<<<<<<< HEAD
-use Rattle.std.proofs.Common.{◌||◌, sym, refl, ◌∙◌, rules}
-=======
 use Rattle.std.proofs.Common.{◌≡◌, ◌||◌, sym, refl, ◌∙◌, rules}
->>>>>>> b0508c9775cfe83ca29014e288a16efaecc37623
 use borrow.Author.Tests.{tests}
 use Rattle.std.specs.List.{list_any}
 use Rattle.std.proofs.lemmas.Iterator.Consumers.{YieldsList-from_first}
@@ -24,11 +20,7 @@ returns c =
     let m = symbol_of c.args.symbol in
     let own = with_letter m.letter (listed s.rules) in
     let p = λ (r : StoredRule). head_looks_right m r.head in
-<<<<<<< HEAD
-    any_from_yields_List p c.any.new.self _ _ c.any.ensures.ran (YieldsList-from_first (λ r. r.now) to_come own c.rules_for.ensures) (λ x b q k. search (rules, tests))
-=======
     let here : to_come c.rules_for.result ≡ own = c.rules_for.ensures in
     any_from_yields_List p c.any.new.self _ _ c.any.ensures.ran (YieldsList-from_first (λ r. r.now) to_come own here) (λ x b q k. search (rules, tests))
->>>>>>> b0508c9775cfe83ca29014e288a16efaecc37623
     ∙ sym (same_from_clauses (λ rs. looks_ahead m (rules_in (code_held s.code) rs)) (list_any p) (λ r b. p r || b) refl (λ _ _. refl) (λ _ _. refl) own)
     ∙ only_ahead (code_held s.code) m (listed s.rules)
