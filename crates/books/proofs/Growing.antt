@@ -1,5 +1,5 @@
 -- A rule tried and grown.
-use Rattle.std.proofs.Common.{◌≡◌, ℕ, zero, suc, ◌-◌, ◌<◌, ◌≤◌, min, true, false, ◌&&◌, ltb, List, [], ◌∷◌, length, take, ℤ, pos, Option, Result, sym, ap, ◌∙◌, arith, length-take, w32, to_z, of_z}
+use Rattle.std.proofs.Common.{◌≡◌, ℕ, zero, suc, ◌-◌, ◌<◌, ◌≤◌, min, true, false, ◌&&◌, ltb, List, [], ◌∷◌, length, take, drop, ℤ, pos, Option, Result, sym, ap, ◌∙◌, arith, length-take, length-drop, w32, to_z, of_z}
 use mathlib.Core.Path.{fun_ext}
 use native.Mathlib.Nat.{sub-zero}
 use Rattle.std.proofs.lemmas.List.{take_all}
@@ -17,6 +17,9 @@ use Rattle.book.specs.Rules.{Form, given, given_beside}
 
 pub first_part : (n : ℕ) (code : List Code) → n ≤ 200 → take 200 (take (n - 0) code) ≡ take n code
 first_part n code h = take_all 200 (take (n - 0) code) (omega (arith, length-take (n - 0) code, sub-zero n)) ∙ ap (λ k. take k code) (sub-zero n)
+
+pub rest_of : (n : ℕ) (code : List Code) → take (length code - n) (drop n code) ≡ drop n code
+rest_of n code = take_all (length code - n) (drop n code) (omega (arith, length-drop n code))
 
 -- names given side by side
 pub all_named : (before after : Option Form) (l r : Option Symbol) (ns : List ℕ) (ps : List ℤ) (g₀ g₁ g₂ g₃ : Env) → ((x : ℕ) → g₀ x ≡ pos 0) → ((x : ℕ) → g₁ x ≡ given_beside after r g₀ x) → ((x : ℕ) → g₂ x ≡ given ns ps g₁ x) → ((x : ℕ) → g₃ x ≡ given_beside before l g₂ x) → (x : ℕ) → g₃ x ≡ given_beside before l (given ns ps (given_beside after r (λ x. pos 0))) x

@@ -1,8 +1,10 @@
 -- A rule tried at a module.
-use Rattle.std.proofs.Common.{◌≡◌, ℕ, true, false, ◌&&◌, Option, sym, ap, ◌∙◌}
+use Rattle.std.proofs.Common.{◌≡◌, ℕ, true, false, ◌&&◌, List, [], ◌∷◌, map, length, Option, sym, refl, ap, ◌∙◌, arith}
 use mathlib.Core.Path.{fun_ext}
 use Rattle.std.proofs.lemmas.Bool.{and_from}
+use Rattle.word.specs.declared.module.Module.{Module}
 use Rattle.word.specs.Symbols.{Symbol}
+use Rattle.word.specs.Records.{symbol_of}
 use Rattle.expr.specs.Values.{Env, Verdict, passes, fails, faults, guard}
 use Rattle.book.specs.Rules.{Rule, names_at}
 use Rattle.book.specs.Winners.{not_false, says, decides}
@@ -31,3 +33,8 @@ module _ (l : Option Symbol) (s : Symbol) (r : Option Symbol) where
     on_fault n p =
         let v = verdict (faults n) p in
         (and_from (candidate l s r u) (not_false (says l s r u)) fits (ap not_false v), ap (λ (x : Verdict). by_verdict l s r x u) (sym v))
+
+-- where no module is written, none is held
+pub none_of : (l : List Module) → map symbol_of l ≡ [] → l ≡ []
+none_of [] e = refl
+none_of (m ∷ l) e = absurd (omega (arith, ap length e))

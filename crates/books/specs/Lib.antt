@@ -13,5 +13,5 @@ pub mod Walking
 pub mod Contents
 pub mod Kinds
 pub mod Few
-pub mod Grown
+pub mod Became
 pub mod Trying

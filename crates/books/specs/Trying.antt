@@ -1,5 +1,5 @@
 -- A rule tried by its head. Internal.
-use Rattle.std.specs.Prelude.{◌≡◌, Bool, true, false, ◌&&◌, List, [], ◌++◌, pos, is_some, Some, None, Ok, Err, Option, Result}
+use Rattle.std.specs.Prelude.{◌≡◌, ℕ, Bool, true, false, ◌&&◌, List, [], ◌++◌, pos, is_some, Some, None, Ok, Err, Option, Result}
 use Rattle.std.specs.Option.{option_map}
 use Rattle.word.specs.declared.module.Module.{Module}
 use Rattle.word.specs.Symbols.{Symbol}
@@ -13,10 +13,9 @@ use Rattle.rules.specs.declared.piece.Piece.{Piece}
 use Rattle.rules.specs.declared.head.Head.{Head}
 use Rattle.book.specs.Rules.{Rule, agrees, beside, given, given_beside}
 use Rattle.book.specs.Records.{form_of}
-use Rattle.books.specs.declared.growth.Growth.{Growth}
 use Rattle.book.specs.Winners.{says, decides}
 use Rattle.books.specs.Outcomes.{Outcome, itself, grown, fault, by_verdict}
-use Rattle.books.specs.Few.{Modules, symbols_in}
+use Rattle.books.specs.Nesting.{deepest}
 
 abbrev pub head_fits : Option Symbol → Symbol → Option Symbol → Head → Bool
 head_fits l s r h = agrees (form_of h.predecessor) s && (beside (option_map form_of h.before) l && beside (option_map form_of h.behind) r)
@@ -38,17 +37,18 @@ abbrev pub Grows : Env → Piece → List Code → Result Module Cause → Type 
 Grows g p cs (Ok m) = (arguments g (latest p.count (decoded [] cs)) ≡ made (symbol_of m).params) × (m.letter ≡ p.letter)
 Grows g p cs (Err e) = arguments g (latest p.count (decoded [] cs)) ≡ spoilt (cause_number e)
 
--- what the pieces of a successor grow to
-abbrev pub Grown : Outcome → Result Modules Cause → Type 0
-Grown o (Ok ms) = grown (symbols_in ms) ≡ o
-Grown o (Err e) = fault (cause_number e) ≡ o
+-- the pieces of a successor grow to the modules w that are written
+abbrev pub Grown : Outcome → Result (Unit {0}) Cause → List Symbol → Type 0
+Grown o (Ok u) w = grown w ≡ o
+Grown o (Err e) w = fault (cause_number e) ≡ o
 
-abbrev pub grown_of : Result Growth Cause → Outcome
-grown_of (Ok g) = grown (symbols_in g.modules)
-grown_of (Err e) = fault (cause_number e)
+-- and how deep they nest is answered
+abbrev pub GrownDeep : Outcome → Result ℕ Cause → List Symbol → Type 0
+GrownDeep o (Ok d) w = (grown w ≡ o) × (d ≡ deepest 0 w)
+GrownDeep o (Err e) w = fault (cause_number e) ≡ o
 
 -- the rule u, tried at the module s between its neighbours, decides nothing, or what becomes of the module
-abbrev pub Tried : Option Symbol → Symbol → Option Symbol → Rule → Result (Option Growth) Cause → Type 0
-Tried l s r u (Ok None) = decides l s r u ≡ false
-Tried l s r u (Ok (Some g)) = (decides l s r u ≡ true) × (grown (symbols_in g.modules) ≡ by_verdict l s r (says l s r u) u)
-Tried l s r u (Err e) = (decides l s r u ≡ true) × (fault (cause_number e) ≡ by_verdict l s r (says l s r u) u)
+abbrev pub Tried : Option Symbol → Symbol → Option Symbol → Rule → Result (Option ℕ) Cause → List Symbol → Type 0
+Tried l s r u (Ok None) w = (decides l s r u ≡ false) × (w ≡ [])
+Tried l s r u (Ok (Some d)) w = (decides l s r u ≡ true) × (grown w ≡ by_verdict l s r (says l s r u) u) × (d ≡ deepest 0 w)
+Tried l s r u (Err e) w = (decides l s r u ≡ true) × (fault (cause_number e) ≡ by_verdict l s r (says l s r u) u)

@@ -4,7 +4,6 @@
 pub mod closed_book;
 pub mod code_places;
 pub mod contents;
-pub mod growth;
 pub mod ignored;
 pub mod letter_index;
 pub mod modules;

@@ -7,7 +7,8 @@ use Rattle.std.proofs.lemmas.Bool.Decides.{nat_tests}
 use Rattle.word.specs.Symbols.{Symbol, is_open, is_close, is_bracket}
 use Rattle.word.specs.Words.{after}
 use Rattle.word.specs.Records.{symbol_of}
-use Rattle.books.specs.Outcomes.{Outcome, itself, grown}
+use Rattle.books.specs.Outcomes.{Outcome, itself, grown, fault}
+use Rattle.books.specs.Became.{settled, nesting}
 use Rattle.books.specs.Nesting.{balanced, deepest}
 use Rattle.books.specs.Few.{Modules, modules_in, symbols_in}
 use Rattle.generation.specs.Generations.{found, adds, stops, added, worked}
@@ -53,13 +54,19 @@ balanced_spans d x (s ∷ v) b h =
 pub growth_spans : (d : ℕ) (v : List Symbol) → balanced 0 v ≡ true → d + deepest 0 v ≤ 32 → spans d v d ≡ true
 growth_spans d v b h = let same : d + 0 ≡ d = omega arith in subst (λ y. spans y v d ≡ true) same (balanced_spans d 0 v b h)
 
--- the outcomes of the book
-module _ (g n i d : ℕ) (s : Symbol) where
-  pub is_itself : (o : Outcome) → itself ≡ o → worked g n i d s o ≡ added g n i (s ∷ [])
-  is_itself o e = ap (worked g n i d s) (sym e)
+-- the modules w are written of an outcome of the letter s
+module _ (d : ℕ) (s : Symbol) (w : List Symbol) (plain : is_bracket s.letter ≡ false) (low : d ≤ 32) where
+  pub added_of : (g n i : ℕ) (o : Outcome) → settled s o ≡ grown w → d + nesting o ≤ 32 → worked g n i d s o ≡ added g n i w
+  added_of g n i itself e h = let same : s ∷ [] ≡ w = cc in ap (added g n i) same
+  added_of g n i (grown v) e h =
+      let same : v ≡ w = cc in
+      ap (λ (b : Bool). cond b (added g n i v) (stops (found g i 33))) (le-leb (d + deepest 0 v) 32 h) ∙ ap (added g n i) same
+  added_of g n i (fault c) e h = let z : ◌≡◌ {A = ℕ} 0 1 = cc in absurd (omega arith)
 
-  pub is_grown : (o : Outcome) (v : List Symbol) → grown v ≡ o → d + deepest 0 v ≤ 32 → worked g n i d s o ≡ added g n i v
-  is_grown o v e h = ap (worked g n i d s) (sym e) ∙ ap (λ (b : Bool). cond b (added g n i v) (stops (found g i 33))) (le-leb (d + deepest 0 v) 32 h)
+  pub spans_of : (o : Outcome) → ((v : List Symbol) → o ≡ grown v → balanced 0 v ≡ true) → settled s o ≡ grown w → d + nesting o ≤ 32 → spans d w d ≡ true
+  spans_of itself tidy e h = let same : s ∷ [] ≡ w = cc in subst (λ v. spans d v d ≡ true) same (letter_spans d s low plain)
+  spans_of (grown v) tidy e h = let same : v ≡ w = cc in subst (λ u. spans d u d ≡ true) same (growth_spans d v (tidy v refl) h)
+  spans_of (fault c) tidy e h = let z : ◌≡◌ {A = ℕ} 0 1 = cc in absurd (omega arith)
 
 -- no window begins deeper than 32
 pub low : (r : Rewriter) → r.window.first.brackets ≤ 32

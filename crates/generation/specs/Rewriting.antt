@@ -8,7 +8,7 @@ use Rattle.word.specs.Words.{broken, Told, Meaning, after, in_bounds}
 use Rattle.word.specs.Records.{symbol_of}
 use Rattle.books.specs.declared.closed_book.ClosedBook.{ClosedBook}
 use Rattle.books.specs.Outcomes.{becomes}
-use Rattle.books.specs.Few.{Modules, modules_in, symbols_in}
+use Rattle.books.specs.Few.{modules_in, symbols_in}
 use Rattle.books.specs.Kinds.{closed_book}
 use Rattle.generation.specs.declared.rewriter.Rewriter.{Rewriter}
 use Rattle.generation.specs.Generations.{next, Part, adds, stops, added, worked}
@@ -48,10 +48,10 @@ module _ (r : Rewriter) (s : Symbol) where
   abbrev pub part_of : Result (Option Module) Fault → Part
   part_of x = cond (is_bracket s.letter) (added r.generation r.produced r.place (s ∷ [])) (by_right x)
 
--- the answer of the code to a part: modules that lead from d to e, or a fault in bounds
-abbrev pub Answers : ℕ → ℕ → ℕ → Part → Result Modules Fault → Type 0
-Answers n d e p (Ok ms) = (p ≡ adds (symbols_in ms)) × (spans d (symbols_in ms) e ≡ true) × (n + length (modules_in ms) ≤ 16_000_000)
-Answers n d e p (Err f) = (p ≡ stops f) × (in_bounds (broken f) ≡ true)
+-- the answer of the code to a part: the modules w are written, which lead from d to e, or a fault in bounds is found
+abbrev pub Answers : ℕ → ℕ → ℕ → Part → Result (Unit {0}) Fault → List Symbol → Type 0
+Answers n d e p (Ok u) w = (p ≡ adds w) × (spans d w e ≡ true) × (n + length w ≤ 16_000_000)
+Answers n d e p (Err f) w = (p ≡ stops f) × (in_bounds (broken f) ≡ true)
 
 -- a passed-up fault is in bounds
 abbrev pub Sound : Result (Option Module) Fault → Type 0
@@ -101,6 +101,14 @@ pub record Stays (r r' : Rewriter) : Type 0 where
   pub lefts_stay : r'.lefts ≡ r.lefts
   pub made_stays : r'.produced ≡ r.produced
   pub place_stays : r'.place ≡ r.place
+
+-- a part is worked out, which leads to e; nothing of it is pending yet
+pub record Worked (p : Part) (e : ℕ) (r : Rewriter) (x : Result (Unit {0}) Fault) (r' : Rewriter) : Type 0 where
+  pub stays : Stays r r'
+  pub opened_stays : r'.opened ≡ r.opened
+  pub fault_stays : r'.fault ≡ r.fault
+  pub none_pending : pending r' ≡ []
+  pub answers : Answers r.produced r.window.first.brackets e p x (symbols_in r'.growth)
 
 -- the next module is told, or none is pending
 abbrev pub Tells : Rewriter → Option Module → Rewriter → Type 0

@@ -5,15 +5,16 @@ ghost use Rattle.books.specs.Ahead.{looks_ahead};
 ghost use Rattle.books.specs.Outcomes.{becomes};
 ghost use Rattle.books.specs.Label.{Label};
 ghost use Rattle.books.specs.Contents.{book_in};
-ghost use Rattle.books.specs.Grown.{outcome_of};
+ghost use Rattle.books.specs.Became.{Became};
+ghost use Rattle.books.specs.Few.{symbols_in};
 ghost use Rattle.books.specs.Kinds.{closed_book};
 ghost use Rattle.books.specs.Stored.{listed};
 ghost use Rattle.books.specs.Index.{with_letter};
 ghost use Rattle.books.specs.Walking.{to_come};
 
 use super::super::contents::Contents;
-use super::super::growth::Growth;
 use super::super::letter_index::LetterIndex;
+use super::super::modules::Modules;
 use super::super::rules_for::RulesFor;
 use super::super::site::Site;
 use super::ClosedBook;
@@ -37,20 +38,26 @@ impl ClosedBook {
         RulesFor::new(letter, self.contents.rules(), &self.index)
     }
 
-    /// What becomes of a module between its neighbours: it grows to the modules of a successor, or a fault ends the word, or
-    /// there is none and it stays as it is. Of the rules that fit, the one with more neighbours grows; then left before right;
-    /// then the lower number.
-    pub fn becomes(&self, site: Site) -> Result<Option<Growth>, Cause>
-        ensures value { outcome_of result ≡ becomes (option_map symbol_of site.left) (symbol_of site.module) (option_map symbol_of site.right) (closed_book self.now).rules }
+    /// Writes what becomes of a module between its neighbours: the modules of a successor, or the module itself where it stays
+    /// as it is; answers how deep a successor nests. Or nothing is written, and a fault ends the word. Of the rules that fit, the one
+    /// with more neighbours grows; then left before right; then the lower number.
+    pub fn becomes(&self, site: Site, grown: &mut Modules) -> Result<u8, Cause>
+        ensures value { Became (symbol_of site.module) (becomes (option_map symbol_of site.left) (symbol_of site.module) (option_map symbol_of site.right) (closed_book self.now).rules) result (symbols_in grown.new) }
         ensures label { Label (closed_book self.now).rules (option_map symbol_of site.left) (symbol_of site.module) (option_map symbol_of site.right) }
     {
-        // A loop, since a fault ends it by `?`: `find_map` over what `try_at` answers, turned inside out, is no plainer.
+        grown.clear();
         for rule in self.rules_for(site.module.letter) {
-            if let Some(growth) = rule.try_at(self.contents.code(), site)? {
-                return Ok(Some(growth));
+            match rule.try_at(self.contents.code(), site, grown) {
+                Ok(None) => {}
+                Ok(Some(depth)) => return Ok(depth),
+                Err(cause) => {
+                    grown.clear();
+                    return Err(cause);
+                }
             }
         }
-        Ok(None)
+        grown.push(site.module);
+        Ok(0)
     }
 
     /// Whether a rule for this letter and so many parameters names a neighbour on the right.

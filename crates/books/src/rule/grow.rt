@@ -9,10 +9,10 @@ ghost use Rattle.rules.specs.Records.{pieces_from, places_in};
 ghost use Rattle.rows.specs.Rows.{held};
 ghost use Rattle.books.specs.Outcomes.{successor};
 ghost use Rattle.books.specs.Stored.{code_held, rule_in};
-ghost use Rattle.books.specs.Trying.{Grows, Grown, grown_of, Tried};
+ghost use Rattle.books.specs.Few.{modules_in, symbols_in};
+ghost use Rattle.books.specs.Trying.{Grows, Grown, GrownDeep, Tried};
 
 use super::super::code_places::CodePlaces;
-use super::super::growth::Growth;
 use super::super::modules::Modules;
 use super::super::site::Site;
 use super::Rule;
@@ -52,20 +52,25 @@ fn grow_piece(piece: &Piece, code: &[Code], names: &Names) -> Result<Module, Cau
     })
 }
 
-// What some pieces grow to, one after the other.
-fn grow_pieces(pieces: &[Piece], code: &[Code], names: &Names) -> Result<Modules, Cause>
+// Writes what some pieces grow to, one after the other. It is written to a row of the caller's, since a row is long to copy.
+fn grow_pieces(
+    pieces: &[Piece],
+    code: &[Code],
+    names: &Names,
+    grown: &mut Modules,
+) -> Result<(), Cause>
     requires few { length pieces.now ≤ 24 }
     requires within { places_in pieces.now ≤ length code.now }
-    ensures { Grown (successor (env_of names.now) (pieces_from pieces.now code.now)) result }
+    requires empty { modules_in grown.old ≡ [] }
+    ensures { Grown (successor (env_of names.now) (pieces_from pieces.now code.now)) result (symbols_in grown.new) }
 {
-    let mut modules = Modules::new(Module::BLANK);
     let mut rest = code;
     for piece in pieces {
         let (own, behind) = rest.split_at(usize::from(piece.places));
-        modules.push(grow_piece(piece, own, names)?);
+        grown.push(grow_piece(piece, own, names)?);
         rest = behind;
     }
-    Ok(modules)
+    Ok(())
 }
 
 impl Rule {
@@ -80,26 +85,36 @@ impl Rule {
         names.guard(&code[0..usize::from(self.guard)])
     }
 
-    // What the successor grows to.
-    pub(crate) fn grow(&self, code: &[Code], names: &Names) -> Result<Growth, Cause>
-        requires { self.now.size ≤ length code.now }
-        ensures { grown_of result ≡ successor (env_of names.now) (pieces_from (held self.now.pieces) (drop self.now.guard code.now)) }
+    // Writes what the successor grows to; how deep it nests.
+    pub(crate) fn grow(
+        &self,
+        code: &[Code],
+        names: &Names,
+        grown: &mut Modules,
+    ) -> Result<u8, Cause>
+        requires size { self.now.size ≤ length code.now }
+        requires empty { modules_in grown.old ≡ [] }
+        ensures { GrownDeep (successor (env_of names.now) (pieces_from (held self.now.pieces) (drop self.now.guard code.now))) result (symbols_in grown.new) }
     {
-        let modules = grow_pieces(
+        grow_pieces(
             self.pieces.as_slice(),
             &code[usize::from(self.guard)..],
             names,
+            grown,
         )?;
-        Ok(Growth {
-            modules,
-            depth: self.depth,
-        })
+        Ok(self.depth)
     }
 
-    // What becomes of a module between its neighbours by this rule; none where it does not decide there.
-    pub(crate) fn try_at(&self, book: &CodePlaces, site: Site) -> Result<Option<Growth>, Cause>
-        requires { self.now.start + self.now.size ≤ length (code_held book.now) }
-        ensures { Tried (option_map symbol_of site.left) (symbol_of site.module) (option_map symbol_of site.right) (rule_in (code_held book.now) self.now) result }
+    // Writes what becomes of a module between its neighbours by this rule; how deep it nests, or none where it does not decide.
+    pub(crate) fn try_at(
+        &self,
+        book: &CodePlaces,
+        site: Site,
+        grown: &mut Modules,
+    ) -> Result<Option<u8>, Cause>
+        requires part { self.now.start + self.now.size ≤ length (code_held book.now) }
+        requires empty { modules_in grown.old ≡ [] }
+        ensures { Tried (option_map symbol_of site.left) (symbol_of site.module) (option_map symbol_of site.right) (rule_in (code_held book.now) self.now) result (symbols_in grown.new) }
     {
         if !self.fits(site) {
             return Ok(None);
@@ -109,7 +124,7 @@ impl Rule {
         if !self.says(code, &names)? {
             return Ok(None);
         }
-        let growth = self.grow(code, &names)?;
-        Ok(Some(growth))
+        let depth = self.grow(code, &names, grown)?;
+        Ok(Some(depth))
     }
 }

@@ -49,22 +49,21 @@ impl Rewriter {
         Some(symbol)
     }
 
-    // Passes over the module in hand; its outcome is told next.
-    pub(crate) fn pass(&mut self, symbol: Module, modules: Modules)
+    // Passes over the module in hand; its outcome, which is worked out, is told next.
+    pub(crate) fn pass(&mut self, symbol: Module)
         requires first { symbol ≡ slice_index_or (in_window self.old.window) 0 symbol }
         requires some { 0 < length (in_window self.old.window) }
-        requires leads { spans self.old.opened.brackets (symbols_in modules) (after self.old.window.first.brackets (symbol_of symbol)) ≡ true }
-        requires room { self.old.produced + length (modules_in modules) ≤ 16_000_000 }
-        ensures { Passes self.old symbol (symbols_in modules) self.new }
+        requires leads { spans self.old.opened.brackets (symbols_in self.old.growth) (after self.old.window.first.brackets (symbol_of symbol)) ≡ true }
+        requires room { self.old.produced + length (symbols_in self.old.growth) ≤ 16_000_000 }
+        ensures { Passes self.old symbol (symbols_in self.old.growth) self.new }
     {
         let ignored = self.book.ignores(symbol.letter);
         let depth = self.window.first();
         self.lefts.note(depth, symbol, ignored);
         let _ = self.window.pop();
         // at most 24, so it fits; a `try_from` would be no plainer
-        self.produced += modules.len() as u32;
+        self.produced += self.growth.len() as u32;
         self.place = (self.place + 1).min(END);
-        self.growth = modules;
         self.told = 0;
     }
 }

@@ -4,15 +4,14 @@ ghost use Rattle.std.specs.Option.{option_map};
 ghost use Rattle.word.specs.Symbols.{is_bracket};
 ghost use Rattle.word.specs.Words.{after, broken, in_bounds};
 ghost use Rattle.word.specs.Records.{symbol_of};
-ghost use Rattle.books.specs.Few.{modules_in, symbols_in};
+ghost use Rattle.books.specs.Few.{symbols_in};
 ghost use Rattle.generation.specs.Generations.{found, added};
 ghost use Rattle.generation.specs.Spans.{spans};
 ghost use Rattle.generation.specs.Windows.{in_window};
-ghost use Rattle.generation.specs.Rewriting.{Answers, with_right, part_of, Sound, Turned};
+ghost use Rattle.generation.specs.Rewriting.{Answers, pending, with_right, part_of, Sound, Turned, Worked};
 
 use super::super::cause::Cause;
 use super::Rewriter;
-use books::modules::{Modules, one};
 use books::site::Site;
 use word::fault::Fault;
 use word::letters::is_bracket;
@@ -36,21 +35,34 @@ impl Rewriter {
         }
     }
 
-    // Modules, if the result has room for them.
-    fn add(&self, modules: Modules) -> Result<Modules, Fault>
-        ensures { (e : ℕ) → spans self.now.window.first.brackets (symbols_in modules) e ≡ true → Answers self.now.produced self.now.window.first.brackets e (added self.now.generation self.now.produced self.now.place (symbols_in modules)) result }
+    // The result has room for what is worked out, or that is the fault.
+    fn room(&self) -> Result<(), Fault>
+        ensures { (e : ℕ) → spans self.now.window.first.brackets (symbols_in self.now.growth) e ≡ true → Answers self.now.produced self.now.window.first.brackets e (added self.now.generation self.now.produced self.now.place (symbols_in self.now.growth)) result (symbols_in self.now.growth) }
     {
         // at most 24, so it fits; a `try_from` would be no plainer
-        if self.produced + modules.len() as u32 > MOST {
+        if self.produced + self.growth.len() as u32 > MOST {
             return Err(self.found(Cause::TooLong as u8));
         }
-        Ok(modules)
+        Ok(())
     }
 
-    // What the rules make of a letter between its neighbours.
-    fn work(&self, symbol: Module, right: Option<Module>) -> Result<Modules, Fault>
-        requires { is_bracket symbol.letter ≡ false }
-        ensures { Answers self.now.produced self.now.window.first.brackets self.now.window.first.brackets (with_right self.now (symbol_of symbol) (option_map symbol_of right)) result }
+    // Works out a bracket, which stays as it is.
+    fn keep(&mut self, symbol: Module) -> Result<(), Fault>
+        requires may { spans self.old.window.first.brackets (symbol_of symbol ∷ []) (after self.old.window.first.brackets (symbol_of symbol)) ≡ true }
+        requires none { pending self.old ≡ [] }
+        ensures { Worked (added self.old.generation self.old.produced self.old.place (symbol_of symbol ∷ [])) (after self.old.window.first.brackets (symbol_of symbol)) self.old result self.new }
+    {
+        self.growth.clear();
+        self.growth.push(symbol);
+        self.told = self.growth.len();
+        self.room()
+    }
+
+    // Works out what the rules make of a letter between its neighbours.
+    fn work(&mut self, symbol: Module, right: Option<Module>) -> Result<(), Fault>
+        requires letter { is_bracket symbol.letter ≡ false }
+        requires none { pending self.old ≡ [] }
+        ensures { Worked (with_right self.old (symbol_of symbol) (option_map symbol_of right)) self.old.window.first.brackets self.old result self.new }
     {
         let depth = self.window.first();
         let site = Site {
@@ -58,31 +70,25 @@ impl Rewriter {
             module: symbol,
             right,
         };
-        let growth = self
-            .book
-            .becomes(site)
-            .map_err(|cause| self.found(cause.number()))?;
-        match growth {
-            None => self.add(one(symbol)),
-            Some(growth) if growth.depth > DEEPEST - depth.brackets => {
-                Err(self.found(Cause::TooDeep as u8))
-            }
-            Some(growth) => self.add(growth.modules),
+        let worked = self.book.becomes(site, &mut self.growth);
+        // it is told once the module is passed
+        self.told = self.growth.len();
+        let nested = worked.map_err(|cause| self.found(cause.number()))?;
+        if nested > DEEPEST - depth.brackets {
+            return Err(self.found(Cause::TooDeep as u8));
         }
+        self.room()
     }
 
-    // The outcome of the module in hand, by what is found on its right.
-    fn outcome(
-        &self,
-        symbol: Module,
-        right: Result<Option<Module>, Fault>,
-    ) -> Result<Modules, Fault>
-        requires may { spans self.now.window.first.brackets (symbol_of symbol ∷ []) (after self.now.window.first.brackets (symbol_of symbol)) ≡ true }
+    // Works out the module in hand, by what is found on its right.
+    fn outcome(&mut self, symbol: Module, right: Result<Option<Module>, Fault>) -> Result<(), Fault>
+        requires may { spans self.old.window.first.brackets (symbol_of symbol ∷ []) (after self.old.window.first.brackets (symbol_of symbol)) ≡ true }
+        requires none { pending self.old ≡ [] }
         requires sound { Sound right }
-        ensures { Answers self.now.produced self.now.window.first.brackets (after self.now.window.first.brackets (symbol_of symbol)) (part_of self.now (symbol_of symbol) right) result }
+        ensures { Worked (part_of self.old (symbol_of symbol) right) (after self.old.window.first.brackets (symbol_of symbol)) self.old result self.new }
     {
         if is_bracket(symbol.letter) {
-            return self.add(one(symbol));
+            return self.keep(symbol);
         }
         self.work(symbol, right?)
     }
@@ -91,12 +97,12 @@ impl Rewriter {
     pub(crate) fn turn(&mut self, symbol: Module, right: Result<Option<Module>, Fault>)
         requires first { symbol ≡ slice_index_or (in_window self.old.window) 0 symbol }
         requires some { 0 < length (in_window self.old.window) }
-        requires told { self.old.opened.brackets ≡ self.old.window.first.brackets }
+        requires none { pending self.old ≡ [] }
         requires sound { Sound right }
         ensures { Turned self.old symbol (part_of self.old (symbol_of symbol) right) self.new }
     {
         match self.outcome(symbol, right) {
-            Ok(modules) => self.pass(symbol, modules),
+            Ok(()) => self.pass(symbol),
             Err(fault) => self.fault = Some(fault),
         }
     }

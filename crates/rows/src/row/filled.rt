@@ -62,6 +62,13 @@ impl<T: Copy, const N: usize> Row<T, N> {
         self.places[..self.len][at..].rotate_right(1);
     }
 
+    /// Takes all values off.
+    pub fn clear(&mut self)
+        ensures { held self.new ≡ [] }
+    {
+        self.len = 0;
+    }
+
     /// Takes the latest value off, if there is one.
     pub fn pop(&mut self) -> Option<T>
         ensures { MatchOption result ((held self.old ≡ []) × (held self.new ≡ [])) (λ x. held self.old ≡ held self.new ++ (x ∷ [])) }

@@ -9,6 +9,6 @@ use Rattle.books.proofs.rule.grow.grow_pieces.Given as goal
 
 abbrev pub invariant-loop-piece : goal.invariant-loop-piece
 invariant-loop-piece l =
-    (length (modules_in l.modules) ≡ l.piece-index)
+    (length (modules_in l.grown) ≡ l.piece-index)
     × (places_in (drop l.piece-index l.pieces) ≤ length l.rest)
-    × (behind (map symbol_of (modules_in l.modules)) (successor (env_of l.names) (pieces_from (drop l.piece-index l.pieces) l.rest)) ≡ successor (env_of l.names) (pieces_from l.pieces l.code))
+    × (behind (map symbol_of (modules_in l.grown)) (successor (env_of l.names) (pieces_from (drop l.piece-index l.pieces) l.rest)) ≡ successor (env_of l.names) (pieces_from l.pieces l.code))

@@ -15,7 +15,7 @@ pub note-requires : goal.note-requires
 note-requires c =
     let r = c.args.self.now in
     let s = symbol_of c.args.symbol in
-    let behind = span_last r.opened.brackets (symbols_in c.args.modules) (after r.window.first.brackets s) c.requires.leads in
+    let behind = span_last r.opened.brackets (symbols_in c.args.self.now.growth) (after r.window.first.brackets s) c.requires.leads in
     subst (λ (d : Depth). after d.brackets s ≤ 32) (sym c.first-depth.ensures) behind
 
 pub returns : goal.returns
@@ -32,7 +32,7 @@ returns c =
       noted =
           c.note.ensures (closed_book r.book).ignored (sym c.ignores-ignored.ensures)
           ∙ ap (λ (d : Depth). passed (closed_book r.book).ignored d.brackets (symbol_of x) (symbol_of x) (table r.lefts)) c.first-depth.ensures;
-      made = ap (λ n. r.produced + n) (c.len.ensures ∙ sym (length-map (modules_in c.args.modules) symbol_of));
+      made = ap (λ n. r.produced + n) (c.len.ensures ∙ sym (length-map (modules_in c.args.self.now.growth) symbol_of));
       onwards = onwards r.place c.min-self.result c.min-self.ensures;
       now_pending = refl;
       opened_stays = refl;
