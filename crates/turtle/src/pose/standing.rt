@@ -1,7 +1,7 @@
 ghost use Rattle.std.specs.Prelude.{◌≡◌};
 ghost use Rattle.turtle.specs.Poses.{home, stance};
 ghost use Rattle.turtle.specs.Examples.{Deeds};
-ghost use Rattle.turtle.specs.Stances.{stance_of};
+ghost use Rattle.turtle.specs.Stances.{point_of, stance_of};
 
 use super::super::place::Place;
 use super::Pose;
@@ -17,6 +17,13 @@ impl Pose {
             place: Place { x: 0, y: 0, z: 0 },
             orientation: 9,
         }
+    }
+
+    /// The place.
+    pub fn place(&self) -> Place
+        ensures { point_of result ≡ (stance_of self.now).place }
+    {
+        self.place
     }
 
     /// The coordinates of the place, and the number of the orientation.

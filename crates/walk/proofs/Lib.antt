@@ -1,0 +1,3 @@
+pub mod Near
+pub mod Going
+pub mod Onwards

@@ -1,0 +1,4 @@
+pub mod Boxes
+pub mod Walks
+pub mod Walkers
+pub mod Onwards
