@@ -1,1 +1,3 @@
 pub mod Coming
+pub mod Walking
+pub mod Law

@@ -1,1 +1,5 @@
 pub mod Views
+pub mod Runs
+pub mod Piles
+pub mod Positions
+pub mod Law

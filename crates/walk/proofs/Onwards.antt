@@ -17,12 +17,12 @@ walked_more : (t : Turtle) (v : List Symbol) (m : Symbol) → walked t (v ++ (m 
 walked_more t [] m = refl
 walked_more t (x ∷ v) m = walked_more (moved t x) v m
 
-strokes_more : (t : Turtle) (v : List Symbol) (m : Symbol) → strokes t (v ++ (m ∷ [])) ≡ strokes t v ++ drawn_by (deed m (walked t v).stance)
+pub strokes_more : (t : Turtle) (v : List Symbol) (m : Symbol) → strokes t (v ++ (m ∷ [])) ≡ strokes t v ++ drawn_by (deed m (walked t v).stance)
 strokes_more t [] m = append-nil (drawn_by (deed m t.stance))
 strokes_more t (x ∷ v) m = ap (λ l. drawn_by (deed x t.stance) ++ l) (strokes_more (moved t x) v m) ∙ sym (append_assoc (drawn_by (deed x t.stance)) (strokes (moved t x) v) (drawn_by (deed m (walked (moved t x) v).stance)))
 
 -- the brackets open behind some modules
-abbrev behind : ℕ → List Symbol → ℕ
+abbrev pub behind : ℕ → List Symbol → ℕ
 behind d [] = d
 behind d (x ∷ v) = behind (after d x) v
 
@@ -47,7 +47,7 @@ stored_moved t d m e h = by (is_open m.letter) (is_close m.letter) h
     by false false g = e
 
 -- what nests is closed no further than it is open
-nest_first : (d : ℕ) (m : Symbol) (w : List Symbol) (e : Ending) → nested d (m ∷ w) e ≡ true → (not (is_close m.letter && eqb d 0) ≡ true) × (nested (after d m) w e ≡ true)
+pub nest_first : (d : ℕ) (m : Symbol) (w : List Symbol) (e : Ending) → nested d (m ∷ w) e ≡ true → (not (is_close m.letter && eqb d 0) ≡ true) × (nested (after d m) w e ≡ true)
 nest_first d m w e h = and_parts (not (is_close m.letter && eqb d 0)) (nested (after d m) w e) (and_parts (leb d 32) _ h).1
 
 nest_low : (d : ℕ) (w : List Symbol) (e : Ending) → nested d w e ≡ true → d ≤ 32
@@ -57,11 +57,11 @@ nest_low d [] e h = low e h
     low x g = grind (arith, nat_tests)
 nest_low d (m ∷ w) e h = leb-true d 32 (and_parts (leb d 32) _ h).0
 
-nest_behind : (d : ℕ) (v w : List Symbol) (e : Ending) → nested d (v ++ w) e ≡ true → nested (behind d v) w e ≡ true
+pub nest_behind : (d : ℕ) (v w : List Symbol) (e : Ending) → nested d (v ++ w) e ≡ true → nested (behind d v) w e ≡ true
 nest_behind d [] w e h = h
 nest_behind d (x ∷ v) w e h = nest_behind (after d x) v w e (nest_first d x (v ++ w) e h).1
 
-stored_behind : (t : Turtle) (d : ℕ) (v w : List Symbol) (e : Ending) → length t.stored ≡ d → nested d (v ++ w) e ≡ true → length (walked t v).stored ≡ behind d v
+pub stored_behind : (t : Turtle) (d : ℕ) (v w : List Symbol) (e : Ending) → length t.stored ≡ d → nested d (v ++ w) e ≡ true → length (walked t v).stored ≡ behind d v
 stored_behind t d [] w e f h = f
 stored_behind t d (x ∷ v) w e f h =
     let n = nest_first d x (v ++ w) e h in

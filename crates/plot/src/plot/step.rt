@@ -1,7 +1,8 @@
 ghost use Rattle.std.specs.Prelude.{◌≡◌};
 ghost use Rattle.turtle.specs.Poses.{stance};
-ghost use Rattle.report.specs.Report.{Writes};
-ghost use Rattle.plot.specs.Views.{view, New, answer_of, fault_at, report_in, Steps, Looks};
+ghost use Rattle.plot.specs.Views.{view, New, answer_of, fault_at, Looks};
+ghost use Rattle.plot.specs.Law.{Law};
+ghost use Rattle.plot.specs.Runs.{reply_of, stepped, stood, reported, Does};
 
 use super::super::state::State;
 use super::super::stop::Stop;
@@ -21,7 +22,8 @@ const MOST: u32 = 16_000_000;
 impl<S: Source + Drop> Plot<S> {
     /// A plot at home, with one home pose stored for each open bracket of its source.
     pub fn new(source: S) -> Plot<S>
-        ensures { New (S.Source.means source) (view (S.Source.means result.source) result.inner) }
+        ensures new { New (S.Source.means source) (view (S.Source.means result.source) result.inner) }
+        ensures law { Law (S.Source.means source) (view (S.Source.means result.source) result.inner) }
     {
         let walker = Walker::new(source.open_brackets());
         Plot {
@@ -60,7 +62,7 @@ impl<S: Source + Drop> Plot<S> {
     /// answered; where the module breaks a limit of the turtle, or the sheet has no space, the module is held, and the next step
     /// looks at it again.
     pub fn step<K: Sheet>(&mut self, sheet: &mut K) -> Result<Option<Module>, Stop>
-        ensures { Steps (view (S.Source.means self.old.source) self.old.inner) (K.Sheet.means sheet.old) (answer_of result) (K.Sheet.means sheet.new) (view (S.Source.means self.new.source) self.new.inner) }
+        ensures { Does (view (S.Source.means self.old.source) self.old.inner) (stepped (K.Sheet.means sheet.old) (answer_of result) (K.Sheet.means sheet.new)) (view (S.Source.means self.new.source) self.new.inner) }
     {
         let next = match self.look() {
             Ok(Some(next)) => next,
@@ -90,14 +92,14 @@ impl<S: Source + Drop> Plot<S> {
 
     /// The position and the number of the orientation.
     pub fn whereabouts(&self) -> ((i32, i32, i32), u8)
-        ensures { stance result.0.0 result.0.1 result.0.2 result.1 ≡ (view (S.Source.means self.now.source) self.now.inner).walk.turtle.stance }
+        ensures { Does (view (S.Source.means self.now.source) self.now.inner) (stood (stance result.0.0 result.0.1 result.0.2 result.1)) (view (S.Source.means self.now.source) self.now.inner) }
     {
         self.inner.walker.whereabouts()
     }
 
     /// Writes the report of the walk so far to a buffer of 160 bytes or more, and answers how long it is.
     pub fn report(&self, buffer: &mut [u8]) -> Result<usize, ShortBuffer>
-        ensures { Writes (report_in (view (S.Source.means self.now.source) self.now.inner)) buffer.old result buffer.new }
+        ensures { Does (view (S.Source.means self.now.source) self.now.inner) (reported buffer.old (reply_of result) buffer.new) (view (S.Source.means self.now.source) self.now.inner) }
     {
         self.inner
             .walker

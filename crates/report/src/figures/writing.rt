@@ -12,6 +12,7 @@ use super::super::short_buffer::ShortBuffer;
 use super::super::text::{MOST, Text, push, push_coordinate, push_line, push_number};
 use super::Figures;
 
+// The line of the box.
 fn push_box(text: &mut Text, bounds: Option<Bounds>)
     ensures { Grows (held text.old) (on_a_line (box_text (option_map box_of bounds))) (held text.new) }
 {
@@ -28,6 +29,7 @@ fn push_box(text: &mut Text, bounds: Option<Bounds>)
     push(text, b"\n");
 }
 
+// The last line, which is short, whatever the fault: its numbers have few digits by their types.
 fn push_ending(text: &mut Text, ending: Ending)
     ensures text { Grows (held text.old) (on_a_line (ending_text ending)) (held text.new) }
     ensures short { length (on_a_line (ending_text ending)) ≤ 29 }
