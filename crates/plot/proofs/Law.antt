@@ -1,5 +1,5 @@
 -- The law of a plot on a pile.
-use Rattle.std.proofs.Common.{◌≡◌, ℕ, zero, suc, ◌+◌, Bool, true, false, cond, not, ◌&&◌, eqb, ltb, List, [], ◌∷◌, ◌++◌, map, length, take, drop, sym, refl, ap, ◌∙◌, subst, arith, length-append, append-nil, append_assoc}
+use Rattle.std.proofs.Common.{◌≡◌, ℕ, Bool, true, false, cond, not, ◌&&◌, eqb, ltb, List, [], ◌∷◌, ◌++◌, map, length, take, drop, sym, refl, ap, ◌∙◌, subst, arith, length-append, append-nil, append_assoc}
 use lib.ListN.{length-replicate}
 use Rattle.std.proofs.lemmas.Bool.{cond-true, eq-eqb, both_ways}
 use Rattle.word.specs.Symbols.{Symbol, is_close}
@@ -9,7 +9,6 @@ use Rattle.turtle.specs.Deeds.{Deed, goes, draws, breaks, deed}
 use Rattle.sheet.specs.Sheets.{Content, with_stroke}
 use Rattle.report.specs.declared.ending.Ending.{Ending as Latest}
 use Rattle.report.specs.declared.ending.Ending.TheVariants.{Open}
-use Rattle.book.specs.Books.{Book}
 use Rattle.generation.specs.Generations.{generated}
 use Rattle.walk.specs.Walks.{Walk, start, strokes, walked, walk_over}
 use Rattle.walk.specs.Walkers.{sheet_after, Drawing, walk_report}
@@ -17,11 +16,11 @@ use Rattle.walk.proofs.Onwards.{behind, nest_first, nest_behind, stored_behind}
 use Rattle.books.specs.Loading.{taken, Reordered}
 use Rattle.books.proofs.Loading.{law as loading}
 use Rattle.plot.specs.Views.{View, New, Answer, took, ended, no_space, Over}
-use Rattle.plot.specs.Runs.{Reply, wrote, refused, Event, stepped, stood, reported, Does, Run}
+use Rattle.plot.specs.Runs.{wrote, refused, Event, stepped, stood, reported, Does, Run}
 use Rattle.plot.specs.Piles.{Layer, grows, prunes, Loaded, layered, piled, Alike}
-use Rattle.plot.specs.Positions.{Call, to_step, to_stand, to_report, call, met, met_by, ended_by, written, walk_at, answered, taken_by, taken_in, all_taken, heard_by, heard_in, heard, put_in, all_put, seen, to_come, Asked, for_step, for_place, for_report, asked_by, asked, Given, a_step, a_place, a_report, bytes_of, given}
+use Rattle.plot.specs.Positions.{Call, to_step, to_stand, to_report, call, met, met_by, ended_by, written, walk_at, answered, taken_by, taken_in, all_taken, heard_by, heard_in, heard, put_in, all_put, seen, to_come, Asked, for_step, for_place, for_report, asked_by, asked, Given, a_step, a_place, a_report, given}
 use Rattle.plot.specs.Law.{Draws, After, Law}
-use Rattle.plot.proofs.Walking.{On, answers, Goes, one_goes, new_on, comes_first}
+use Rattle.plot.proofs.Walking.{On, answers, one_goes, new_on, comes_first}
 
 -- the front and the rest of a list
 front : {A : Type 0} (a b : List A) → take (length a) (a ++ b) ≡ a
@@ -111,9 +110,9 @@ module _ (w : Meaning) (lawful : Lawful w) where
       full_so m ms k first d z =
           let is : deed m (walk_over w.opened done).turtle.stance ≡ draws k d.0 = (λ i. deed m (walk_over w.opened (done_is i)).turtle.stance) ∙ d.1 in
           let same : stepped c a c' ≡ stepped c no_space c =
-              event_is (m ∷ ms) (come_is ∙ first)
-              ∙ ap (met_by w n c m) is
-              ∙ cond-true (eqb c.space 0) (stepped c no_space c) (stepped c (took m) (with_stroke c k)) (eq-eqb c.space 0 z) in
+          event_is (m ∷ ms) (come_is ∙ first)
+          ∙ ap (met_by w n c m) is
+          ∙ cond-true (eqb c.space 0) (stepped c no_space c) (stepped c (took m) (with_stroke c k)) (eq-eqb c.space 0 z) in
           cc
 
     on_sheet : (c c' : Content) (m : Symbol) (v' : View) → Does v (stepped c (took m) c') v' → (k : Stroke) → Draws w n m k → c' ≡ with_stroke c k
@@ -204,10 +203,10 @@ module _ (w : Meaning) (lawful : Lawful w) where
       let other = one_goes w lawful done l v' on' y m' d' in
       let come : to_come v ≡ to_come v' = sym (rest done (to_come v)) ∙ ap (drop (length done)) (on.modules ∙ sym on'.modules) ∙ rest done (to_come v') in
       let same : given x ≡ given y =
-          ap given one.answer
-          ∙ (λ i. given (answers w done l (come i) (call x)))
-          ∙ given_same w done l (to_come v') (call x) (call y) heads
-          ∙ ap given (sym other.answer) in
+      ap given one.answer
+      ∙ (λ i. given (answers w done l (come i) (call x)))
+      ∙ given_same w done l (to_come v') (call x) (call y) heads
+      ∙ ap given (sym other.answer) in
       let took_same : taken_in y ≡ taken_in x = taken_given y ∙ ap taken_of (sym same) ∙ sym (taken_given x) in
       let heard_same : heard_in l y ≡ heard_in l x = heard_given l y ∙ ap (heard_of l) (sym same) ∙ sym (heard_given l x) in
       let on_y = subst (λ t. On w (done ++ t) (heard_in l x) m') took_same (subst (λ t. On w (done ++ taken_in y) t m') heard_same other.on) in

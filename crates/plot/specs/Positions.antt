@@ -1,12 +1,12 @@
 -- The walk of a plot, by position: how things stand after n modules of the word, and what the next call is answered there.
-use Rattle.std.specs.Prelude.{◌≡◌, ℕ, ◌+◌, cond, List, [], ◌∷◌, ◌++◌, length, take, drop, Some, None, Option, ◌==◌, nat_lt}
+use Rattle.std.specs.Prelude.{ℕ, ◌+◌, cond, List, [], ◌∷◌, ◌++◌, length, take, drop, Some, None, Option, ◌==◌, nat_lt}
 use Rattle.word.specs.Symbols.{Symbol}
 use Rattle.word.specs.Words.{Ending, clean, broken, Meaning}
 use Rattle.turtle.specs.Poses.{Stance, Stroke}
 use Rattle.turtle.specs.Deeds.{Deed, goes, draws, breaks, deed}
 use Rattle.sheet.specs.Sheets.{Content, with_stroke}
 use Rattle.report.specs.declared.ending.Ending.{Ending as Latest}
-use Rattle.report.specs.declared.ending.Ending.TheVariants.{Open, Clean, Broken}
+use Rattle.report.specs.declared.ending.Ending.TheVariants.{Clean, Broken}
 use Rattle.walk.specs.Walks.{Walk, walk_over}
 use Rattle.walk.specs.Walkers.{walk_report}
 use Rattle.plot.specs.Views.{View, Answer, took, ended, faulted, no_space}
