@@ -1,0 +1,19 @@
+-- What is printed for a job, by what it asks for.
+use Rattle.std.specs.Prelude.{ℕ, List, ◌++◌, Ok, Err, Result, codes, decimal}
+use Rattle.seed.specs.Seeds.{seeded}
+use Rattle.pile.specs.Piles.{piled}
+use Rattle.books.specs.Kinds.{closed_book}
+use Rattle.report.specs.Text.{on_a_line}
+use Rattle.filling.specs.declared.order.Order.{Order}
+use Rattle.filling.specs.declared.refusal.JobRefusal.{JobRefusal}
+use Rattle.filling.specs.Refusals.{job_refusal_number, job_refusal_line}
+use Rattle.grow.specs.Plotted.{plot_text}
+
+-- the report of the word that the generations of the seed come to, pruned
+abbrev pub order_text : Order → List ℕ
+order_text order = plot_text (piled order.generations (closed_book order.book) (seeded order.seed.now))
+
+-- a refusal by its number and line, or the report
+abbrev pub answer_text : Result Order JobRefusal → List ℕ
+answer_text (Err why) = on_a_line (codes "refused " ++ (decimal (job_refusal_number why) ++ (codes " line " ++ decimal (job_refusal_line why))))
+answer_text (Ok order) = order_text order
