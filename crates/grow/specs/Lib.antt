@@ -1,3 +1,1 @@
-pub mod Runs
-pub mod Plotted
 pub mod Printed

@@ -7,7 +7,7 @@ use Rattle.report.specs.Text.{on_a_line}
 use Rattle.filling.specs.declared.order.Order.{Order}
 use Rattle.filling.specs.declared.refusal.JobRefusal.{JobRefusal}
 use Rattle.filling.specs.Refusals.{job_refusal_number, job_refusal_line}
-use Rattle.grow.specs.Plotted.{plot_text}
+use Rattle.runs.specs.Plotted.{plot_text}
 
 -- the report of the word that the generations of the seed come to, pruned
 abbrev pub order_text : Order → List ℕ

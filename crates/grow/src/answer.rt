@@ -3,10 +3,10 @@ ghost use Rattle.std.specs.Prelude.{Some};
 ghost use Rattle.report.specs.Report.{Writes};
 ghost use Rattle.grow.specs.Printed.{order_text, answer_text};
 
-use super::run::plot_word;
 use filling::order::Order;
 use filling::refusal::JobRefusal;
 use pile::pile::pile_of;
+use runs::run::plot_word;
 use std::{fmt, str};
 
 // No report has more bytes.

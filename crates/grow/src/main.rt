@@ -2,7 +2,6 @@
 #![tactic(auto)]
 
 mod answer;
-mod run;
 #[cfg(test)]
 mod tests;
 

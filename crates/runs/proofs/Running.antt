@@ -8,7 +8,7 @@ use Rattle.sheet.specs.Sheets.{Content}
 use Rattle.walk.specs.Walks.{Walk}
 use Rattle.walk.specs.Walkers.{gone_on, sheet_after, Fits}
 use Rattle.plot.specs.Views.{View, took, Comes, Steps}
-use Rattle.grow.specs.Runs.{held_before, coming, gone_over, laid, AllFit, TakesAll}
+use Rattle.runs.specs.Runs.{held_before, coming, gone_over, laid, AllFit, TakesAll}
 
 -- the module that comes next is the first of those that come
 pub comes_first : (h : Option Symbol) (s : Meaning) (m : Symbol) (s' : Meaning) → Comes h s m s' → held_before h s.told.modules ≡ m ∷ s'.told.modules

@@ -1,8 +1,8 @@
 use Rattle.std.proofs.Common.{List, length}
 use Rattle.word.specs.Symbols.{Symbol}
 use Rattle.plot.specs.Views.{view}
-use Rattle.grow.specs.Runs.{coming, TakesAll}
-use Rattle.grow.proofs.run.run_to_end.Given as goal
+use Rattle.runs.specs.Runs.{coming, TakesAll}
+use Rattle.runs.proofs.run.run_to_end.Given as goal
 
 -- some modules were taken
 abbrev pub invariant-loop : goal.invariant-loop

@@ -3,8 +3,8 @@ use Rattle.word.specs.Symbols.{Symbol}
 use Rattle.word.specs.declared.module.Module.{Module}
 use Rattle.sheet.specs.Sheets.{Content}
 use Rattle.plot.specs.Views.{View, view, took, answer_of, Steps}
-use Rattle.grow.proofs.Running.{takes_more}
-use Rattle.grow.proofs.run.run_to_end.Goals as goal
+use Rattle.runs.proofs.Running.{takes_more}
+use Rattle.runs.proofs.run.run_to_end.Goals as goal
 
 -- a step that answers a module took it
 took_one : (u : View) (b : Content) (o : Option Module) (c : Content) (v : View) → is_some o ≡ true → Steps u b (answer_of (Ok o)) c v → (m : Symbol) × Steps u b (took m) c v

@@ -13,9 +13,9 @@ use Rattle.word.specs.declared.fault.Fault.{Fault}
 use Rattle.plot.specs.Views.{View, New, fault_at, deed_in, Over, Hears, Holds, Steps}
 use Rattle.plot.specs.declared.stop.Stop.{Stop}
 use Rattle.plot.specs.declared.stop.Stop.TheVariants as stop
-use Rattle.grow.specs.Runs.{held_before, coming, gone_over, counted_on, laid, AllFit, TakesAll, last_answer}
-use Rattle.grow.specs.Plotted.{unless_breaks, passed, latest_of, unless_broken, way_ends, way, way_end, Plotted}
-use Rattle.grow.proofs.Running.{comes_first}
+use Rattle.runs.specs.Runs.{held_before, coming, gone_over, counted_on, laid, AllFit, TakesAll, last_answer}
+use Rattle.runs.specs.Plotted.{unless_breaks, passed, latest_of, unless_broken, way_ends, way, way_end, Plotted}
+use Rattle.runs.proofs.Running.{comes_first}
 
 -- the next module, behind v, of the word v ++ (m ∷ (w ++ r))
 shifted : (v : List Symbol) (m : Symbol) (w r : List Symbol) → (v ++ (m ∷ [])) ++ (w ++ r) ≡ v ++ (m ∷ (w ++ r))

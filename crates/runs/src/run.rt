@@ -1,7 +1,7 @@
 // A plot that is stepped until a step takes no module.
 ghost use Rattle.plot.specs.Views.{view};
-ghost use Rattle.grow.specs.Runs.{Runs};
-ghost use Rattle.grow.specs.Plotted.{Plotted};
+ghost use Rattle.runs.specs.Runs.{Runs};
+ghost use Rattle.runs.specs.Plotted.{Plotted};
 
 use plot::plot::Plot;
 use plot::stop::Stop;

@@ -1,8 +1,8 @@
 use Rattle.std.proofs.Common.{ap}
 use Rattle.sheet.specs.Sheets.{Content}
 use Rattle.plot.specs.Views.{view}
-use Rattle.grow.proofs.Whole.{plotted}
-use Rattle.grow.proofs.run.plot_word.Goals as goal
+use Rattle.runs.proofs.Whole.{plotted}
+use Rattle.runs.proofs.run.plot_word.Goals as goal
 
 pub returns : goal.returns
 returns g c =

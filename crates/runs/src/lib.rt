@@ -1,0 +1,4 @@
+// A plot that follows a whole word.
+#![tactic(auto)]
+
+pub mod run;
