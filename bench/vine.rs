@@ -1,13 +1,16 @@
-// A baseline in plain Rust to time the product's `unroll` against. It reads the same jobs, grows by the same streaming method (a
-// layer for each generation over a seed, a pruner on top, no word is ever stored whole), and prints the same bytes. It is run by
-// hand, by `bench/run`, and is no part of the gate: nothing of it is proved, and nothing of the product stands on it.
+// A baseline in plain Rust to time the product's `unroll` and `grow` against. Its one argument says which of them it is: `unroll`
+// or `grow`. It reads the same jobs, grows by the same streaming method (a layer for each generation over a seed, a pruner on top,
+// no word is ever stored whole), and prints the same bytes: the word, or the report of a turtle that follows it. It is run by hand,
+// by `bench/run`, and is no part of the gate: nothing of it is proved, and nothing of the product stands on it.
 //
-// It tells the faults 21 to 25 and 30 to 34; no job is long enough for the fault 20 of a seed. What is no job it refuses by 58. A
-// line is refused exactly where the product refuses it, so that both grow by the same books, but always by 2, whatever is wrong.
+// It tells the faults 21 to 25, 30 to 34, 41 and 42; no job is long enough for the fault 20 of a seed. What is no job it refuses by
+// 58. A line is refused exactly where the product refuses it, so that both grow by the same books, but always by 2, whatever is
+// wrong.
 
 use std::collections::VecDeque;
 use std::io::{self, BufWriter, Read, Write};
 use std::mem::take;
+use std::{env, process};
 
 const LONGEST_JOB: usize = 65_536;
 const MOST_MODULES: usize = 16_000_000;
@@ -16,6 +19,10 @@ const DEEPEST: usize = 32;
 const AHEAD: usize = 64;
 /// No number lies further from 0.
 const GREATEST: i32 = 1_000_000;
+/// No step of the turtle is longer.
+const LONGEST_STEP: i32 = 4_095;
+/// No coordinate lies further from 0.
+const FARTHEST: i32 = 30_000;
 
 // Words and sources
 
@@ -55,6 +62,8 @@ struct Fault {
 }
 
 /// Whatever tells a word, one module at a time, and none at its end. It is not asked again after a fault.
+///
+/// Draws are always inlined: with two programs that draw, the compiler would not do so by itself, and both would be slower.
 trait Source {
     fn draw(&mut self) -> Result<Option<Module>, Fault>;
 }
@@ -122,6 +131,7 @@ fn read_module(own: &[u8]) -> Result<Module, u8> {
 }
 
 impl Source for Seed<'_> {
+    #[inline(always)]
     fn draw(&mut self) -> Result<Option<Module>, Fault> {
         let place = self.told + 1;
         let fault = |cause| Fault { cause, generation: 0, place };
@@ -152,6 +162,7 @@ struct Pruner<S> {
 }
 
 impl<S: Source> Source for Pruner<S> {
+    #[inline(always)]
     fn draw(&mut self) -> Result<Option<Module>, Fault> {
         while let Some(module) = self.below.draw()? {
             let before = self.depth;
@@ -423,6 +434,7 @@ impl<'b, S: Source> Generation<'b, S> {
 }
 
 impl<S: Source> Source for Generation<'_, S> {
+    #[inline(always)]
     fn draw(&mut self) -> Result<Option<Module>, Fault> {
         loop {
             if let Some(module) = self.growth.get(self.told) {
@@ -602,7 +614,152 @@ impl<'a> Parser<'a> {
     }
 }
 
+// The turtle
+
+/// A place, and two directions at right angles, by number: 0 +x, 1 -x, 2 +y, 3 -y, 4 +z, 5 -z.
+#[derive(Clone, Copy)]
+struct Pose {
+    place: [i32; 3],
+    heading: u8,
+    left: u8,
+}
+
+const HOME: Pose = Pose { place: [0; 3], heading: 2, left: 1 };
+
+fn opposite(direction: u8) -> u8 {
+    direction ^ 1
+}
+
+/// The cross product of two directions at right angles.
+fn cross(a: u8, b: u8) -> u8 {
+    let (p, q) = (a / 2, b / 2);
+    // x, y, z, x is the order that leads to the positive side
+    let backwards = u8::from((p + 1) % 3 != q);
+    2 * (3 - p - q) + (backwards ^ (a & 1) ^ (b & 1))
+}
+
+impl Pose {
+    /// A quarter turn, or a half one for `|`. Other letters do not turn.
+    fn turn(&mut self, letter: u8) {
+        let (heading, left) = (self.heading, self.left);
+        (self.heading, self.left) = match letter {
+            b'+' => (left, opposite(heading)),
+            b'-' => (opposite(left), heading),
+            b'&' => (opposite(cross(heading, left)), left),
+            b'^' => (cross(heading, left), left),
+            b'\\' => (heading, opposite(cross(heading, left))),
+            b'/' => (heading, cross(heading, left)),
+            b'|' => (opposite(heading), opposite(left)),
+            _ => (heading, left),
+        };
+    }
+
+    /// Goes ahead, or tells the limit that this would break.
+    fn step(&mut self, length: i32) -> Result<(), u8> {
+        if !(0..=LONGEST_STEP).contains(&length) {
+            return Err(41);
+        }
+        let coordinate = &mut self.place[usize::from(self.heading / 2)];
+        let end = if self.heading % 2 == 0 { *coordinate + length } else { *coordinate - length };
+        if !(-FARTHEST..=FARTHEST).contains(&end) {
+            return Err(42);
+        }
+        *coordinate = end;
+        Ok(())
+    }
+}
+
+/// Where the turtle is, the poses stored at open brackets, and what the report tells.
+struct Plot {
+    pose: Pose,
+    stored: [Pose; DEEPEST],
+    depth: usize,
+    deepest: usize,
+    modules: u32,
+    segments: u32,
+    length: u64,
+    /// The box, which counts from the first segment on.
+    least: [i32; 3],
+    greatest: [i32; 3],
+}
+
+impl Plot {
+    fn new() -> Plot {
+        Plot {
+            pose: HOME,
+            stored: [HOME; DEEPEST],
+            depth: 0,
+            deepest: 0,
+            modules: 0,
+            segments: 0,
+            length: 0,
+            least: [i32::MAX; 3],
+            greatest: [i32::MIN; 3],
+        }
+    }
+
+    fn draw(&mut self, length: i32) -> Result<(), u8> {
+        let start = self.pose.place;
+        self.pose.step(length)?;
+        if length > 0 {
+            self.segments += 1;
+            self.length += u64::from(length.unsigned_abs());
+            for (axis, (from, to)) in start.into_iter().zip(self.pose.place).enumerate() {
+                self.least[axis] = self.least[axis].min(from).min(to);
+                self.greatest[axis] = self.greatest[axis].max(from).max(to);
+            }
+        }
+        Ok(())
+    }
+
+    /// Takes a module, or tells the limit that it would break.
+    fn take(&mut self, module: Module) -> Result<(), u8> {
+        let length = if module.count == 0 { 1 } else { module.params[0] };
+        match module.letter {
+            b'F' => self.draw(length)?,
+            b'f' => self.pose.step(length)?,
+            b'[' => {
+                self.stored[self.depth] = self.pose;
+                self.depth += 1;
+                self.deepest = self.deepest.max(self.depth);
+            }
+            b']' => {
+                self.depth -= 1;
+                self.pose = self.stored[self.depth];
+            }
+            letter => self.pose.turn(letter),
+        }
+        self.modules += 1;
+        Ok(())
+    }
+
+    /// Takes the word of a source, which has so many generations, and tells how it ends.
+    fn follow<S: Source>(&mut self, mut source: S, generation: u8) -> Result<(), Fault> {
+        while let Some(module) = source.draw()? {
+            self.take(module).map_err(|cause| Fault { cause, generation, place: self.modules + 1 })?;
+        }
+        Ok(())
+    }
+
+    /// The report, but for its last line.
+    fn write<W: Write>(&self, out: &mut W) -> io::Result<()> {
+        writeln!(out, "modules {}\nsegments {}\nlength {}", self.modules, self.segments, self.length)?;
+        let ([a, c, e], [b, d, f]) = (self.least, self.greatest);
+        match self.segments {
+            0 => writeln!(out, "box none")?,
+            _ => writeln!(out, "box {a} {b} {c} {d} {e} {f}")?,
+        }
+        writeln!(out, "deepest {}", self.deepest)
+    }
+}
+
 // The program
+
+#[derive(Clone, Copy)]
+enum Program {
+    Unroll,
+    Grow,
+}
 
 /// The number of generations, the seed text and the lines of the book.
 fn read_job(bytes: &[u8]) -> Option<(u8, &[u8], &[u8])> {
@@ -614,15 +771,40 @@ fn read_job(bytes: &[u8]) -> Option<(u8, &[u8], &[u8])> {
     (bytes.len() <= LONGEST_JOB).then_some((digit - b'0', &rest[..end], lines))
 }
 
-/// Prints the word of a source, pruned, and how it ends.
-fn show<S: Source, W: Write>(below: S, out: &mut W) -> io::Result<()> {
-    let mut pruner = Pruner { below, depth: 0, floor: None };
-    loop {
-        match pruner.draw() {
+fn write_ending<W: Write>(ending: Result<(), Fault>, out: &mut W) -> io::Result<()> {
+    match ending {
+        Ok(()) => writeln!(out, "end clean"),
+        Err(fault) => writeln!(out, "end fault {} {} {}", fault.cause, fault.generation, fault.place),
+    }
+}
+
+/// Prints the word of a source, and how it ends.
+fn show<S: Source, W: Write>(mut source: S, out: &mut W) -> io::Result<()> {
+    let ending = loop {
+        match source.draw() {
             Ok(Some(module)) => module.write(out)?,
-            Ok(None) => return writeln!(out, "\nend clean"),
-            Err(fault) => return writeln!(out, "\nend fault {} {} {}", fault.cause, fault.generation, fault.place),
+            Ok(None) => break Ok(()),
+            Err(fault) => break Err(fault),
         }
+    };
+    writeln!(out)?;
+    write_ending(ending, out)
+}
+
+/// Prints the report of the word of a source, which has so many generations.
+fn report<S: Source, W: Write>(source: S, generations: u8, out: &mut W) -> io::Result<()> {
+    let mut plot = Plot::new();
+    let ending = plot.follow(source, generations);
+    plot.write(out)?;
+    write_ending(ending, out)
+}
+
+/// Prints what a program prints of so many generations, pruned.
+fn answer<S: Source, W: Write>(program: Program, below: S, generations: u8, out: &mut W) -> io::Result<()> {
+    let pruner = Pruner { below, depth: 0, floor: None };
+    match program {
+        Program::Unroll => show(pruner, out),
+        Program::Grow => report(pruner, generations, out),
     }
 }
 
@@ -635,6 +817,14 @@ macro_rules! layers {
 }
 
 fn main() -> io::Result<()> {
+    let program = match env::args().nth(1).as_deref() {
+        Some("unroll") => Program::Unroll,
+        Some("grow") => Program::Grow,
+        _ => {
+            eprintln!("usage: vine unroll|grow < job");
+            process::exit(2);
+        }
+    };
     let mut bytes = Vec::new();
     io::stdin().lock().take(LONGEST_JOB as u64 + 1).read_to_end(&mut bytes)?;
     let mut out = BufWriter::with_capacity(1 << 16, io::stdout().lock());
@@ -647,15 +837,15 @@ fn main() -> io::Result<()> {
     };
     let seed = Seed { rest: seed, told: 0, depth: 0 };
     match generations {
-        0 => show(layers!(seed, &book;), &mut out)?,
-        1 => show(layers!(seed, &book; 1), &mut out)?,
-        2 => show(layers!(seed, &book; 2 1), &mut out)?,
-        3 => show(layers!(seed, &book; 3 2 1), &mut out)?,
-        4 => show(layers!(seed, &book; 4 3 2 1), &mut out)?,
-        5 => show(layers!(seed, &book; 5 4 3 2 1), &mut out)?,
-        6 => show(layers!(seed, &book; 6 5 4 3 2 1), &mut out)?,
-        7 => show(layers!(seed, &book; 7 6 5 4 3 2 1), &mut out)?,
-        _ => show(layers!(seed, &book; 8 7 6 5 4 3 2 1), &mut out)?,
+        0 => answer(program, layers!(seed, &book;), generations, &mut out)?,
+        1 => answer(program, layers!(seed, &book; 1), generations, &mut out)?,
+        2 => answer(program, layers!(seed, &book; 2 1), generations, &mut out)?,
+        3 => answer(program, layers!(seed, &book; 3 2 1), generations, &mut out)?,
+        4 => answer(program, layers!(seed, &book; 4 3 2 1), generations, &mut out)?,
+        5 => answer(program, layers!(seed, &book; 5 4 3 2 1), generations, &mut out)?,
+        6 => answer(program, layers!(seed, &book; 6 5 4 3 2 1), generations, &mut out)?,
+        7 => answer(program, layers!(seed, &book; 7 6 5 4 3 2 1), generations, &mut out)?,
+        _ => answer(program, layers!(seed, &book; 8 7 6 5 4 3 2 1), generations, &mut out)?,
     }
     out.flush()
 }
