@@ -110,6 +110,18 @@ fn trial<S: Source + Drop>(rt: &impl Print, source: S) -> io::Result<()> {
     show_bytes(rt, &large)
 }
 
+// The same word on one large page: its bytes are those of the two pages, one behind the other.
+fn whole<S: Source + Drop>(rt: &impl Print, source: S) -> io::Result<()> {
+    let mut plot = Plot::new(source);
+    let mut buffer = [0xee; 62];
+    let mut page = Page::new(&mut buffer);
+    for _ in 0..16 {
+        let _ = plot.step(&mut page);
+    }
+    println!(rt; "  one page of {}", page.tally().count())?;
+    show_bytes(rt, &buffer)
+}
+
 // Whatever a word draws comes upon a tally; the fault of a limit is answered again and again.
 fn limit(rt: &impl Print, text: &[u8]) -> io::Result<()> {
     let mut plot = Plot::new(Seed::new(text));
@@ -125,8 +137,10 @@ fn main(rt: HostRuntime) -> io::Result<()> {
     let book = book();
     println!(&rt; "a pruner on a generation")?;
     trial(&rt, Pruner::new(Generation::new(Seed::new(SEED), book)))?;
+    whole(&rt, Pruner::new(Generation::new(Seed::new(SEED), book)))?;
     println!(&rt; "a generation on a pruner")?;
     trial(&rt, Generation::new(Pruner::new(Seed::new(SEED)), book))?;
+    whole(&rt, Generation::new(Pruner::new(Seed::new(SEED)), book))?;
     println!(&rt; "no layer")?;
     trial(&rt, Seed::new(b"F(2)[+F]"))?;
     println!(&rt; "limits")?;
