@@ -4,6 +4,7 @@ use Rattle.std.proofs.lemmas.Bool.{and_parts, and_from, leb-true, le-leb, eqb-tr
 use Rattle.std.proofs.lemmas.Bool.Decides.{nat_tests}
 use Rattle.word.specs.Symbols.{Symbol, is_close, is_bracket, valid}
 use Rattle.word.specs.Words.{Ending, clean, broken, Told, after, all_valid, nested, in_bounds}
+use Rattle.word.proofs.Joined.{valid_append}
 use Rattle.book.specs.Books.{Book}
 use Rattle.books.specs.Ahead.{looks_ahead}
 use Rattle.books.specs.Outcomes.{Outcome, itself, grown, fault, becomes}
@@ -27,12 +28,6 @@ inside d x (s ∷ v) w e b h r =
     let rest = inside d (after x s) v w e parts.1 (omega arith) r in
     and_from (leb (d + x) 32) _ (le-leb (d + x) 32 (omega arith))
     (and_from _ _ deeper (subst (λ (y : ℕ). nested y (v ++ w) e ≡ true) (sym (after_inside d x s parts.0)) rest))
-
-pub valid_append : (v w : List Symbol) → all_valid v ≡ true → all_valid w ≡ true → all_valid (v ++ w) ≡ true
-valid_append [] w a b = b
-valid_append (s ∷ v) w a b =
-    let parts = and_parts (valid s) (all_valid v) a in
-    and_from (valid s) (all_valid (v ++ w)) parts.0 (valid_append v w parts.1 b)
 
 -- a part of a lawful told word: of the module s at depth d, behind n modules
 abbrev pub Good : ℕ → ℕ → Symbol → Part → Type 0

@@ -7,7 +7,6 @@ pub mod Agreement
 pub mod Causes
 pub mod Lawful
 pub mod Turning
-pub mod Spanning
 pub mod Rowing
 pub mod Seeing
 pub mod Looks

@@ -12,12 +12,12 @@ use Rattle.books.specs.Became.{settled, nesting}
 use Rattle.books.specs.Nesting.{balanced, deepest}
 use Rattle.books.specs.Few.{Modules, modules_in, symbols_in}
 use Rattle.generation.specs.Generations.{found, adds, stops, added, worked}
-use Rattle.generation.specs.Spans.{spans}
+use Rattle.word.specs.Spans.{spans}
 use Rattle.generation.proofs.Agreement.{after_plain}
 use Rattle.generation.proofs.Lawful.{after_inside}
 use Rattle.generation.specs.declared.rewriter.Rewriter.{Rewriter}
 use Rattle.generation.specs.Windows.{held}
-use Rattle.generation.proofs.Spanning.{no_span, span_first}
+use Rattle.word.proofs.Spanning.{no_span, span_first}
 
 same_length : (ms : Modules) → length (symbols_in ms) ≡ length (modules_in ms)
 same_length ms = length-map (modules_in ms) symbol_of

@@ -6,10 +6,10 @@ use Rattle.word.specs.Symbols.{Symbol, is_close}
 use Rattle.word.specs.Words.{after}
 use Rattle.word.specs.Records.{symbol_of}
 use Rattle.generation.specs.declared.window.Window.{Window}
-use Rattle.generation.specs.Spans.{spans}
+use Rattle.word.specs.Spans.{spans}
 use Rattle.generation.specs.Windows.{in_window}
 use Rattle.generation.specs.Stream.{onward}
-use Rattle.generation.proofs.Spanning.{no_span, span_first}
+use Rattle.word.proofs.Spanning.{no_span, span_first}
 
 -- what is taken off a window is its first module
 module _ (w w' : Window) (x : Module) (is : x ≡ get_or (in_window w) 0 x) (some : 0 < length (in_window w)) where

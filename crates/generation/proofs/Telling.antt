@@ -7,9 +7,9 @@ use Rattle.word.specs.Words.{after}
 use Rattle.word.specs.Records.{symbol_of}
 use Rattle.books.specs.Few.{modules_in}
 use Rattle.generation.specs.declared.rewriter.Rewriter.{Rewriter}
-use Rattle.generation.specs.Spans.{spans}
+use Rattle.word.specs.Spans.{spans}
 use Rattle.generation.specs.Rewriting.{pending}
-use Rattle.generation.proofs.Spanning.{one_less}
+use Rattle.word.proofs.Spanning.{one_less}
 
 pub none_pending : (r : Rewriter) → length (modules_in r.growth) ≤ r.told → pending r ≡ []
 none_pending r h = ap (map symbol_of) (drop_all r.told (modules_in r.growth) h)

@@ -8,34 +8,15 @@ use Rattle.word.specs.declared.module.Module.{Module}
 use Rattle.word.specs.Symbols.{Symbol, is_close, valid}
 use Rattle.word.specs.Words.{Ending, Meaning, after, all_valid, nested, Lawful}
 use Rattle.word.specs.Records.{symbol_of}
-use Rattle.word.proofs.Sound.{is_valid}
+use Rattle.word.proofs.Joined.{span_nested, valid_append, all_are}
 use Rattle.books.specs.Few.{modules_in}
 use Rattle.generation.specs.declared.rewriter.Rewriter.{Rewriter}
 use Rattle.generation.specs.Bounds.{bounded}
-use Rattle.generation.specs.Spans.{spans}
+use Rattle.word.specs.Spans.{spans}
 use Rattle.generation.specs.Goes.{GoesOn}
 use Rattle.generation.specs.Tables.{table}
 use Rattle.generation.specs.Windows.{in_window, held, flow}
 use Rattle.generation.specs.Rewriting.{pending, telling, left_in}
-
--- what is nested behind modules is nested with them
-pub span_nested : (d : ℕ) (w : List Symbol) (e : ℕ) (v : List Symbol) (x : Ending) → spans d w e ≡ true → nested e v x ≡ true → nested d (w ++ v) x ≡ true
-span_nested d [] e v x h n = let p = and_parts (nat_le d 32) (d == e) h in subst (λ y. nested y v x ≡ true) (sym (eqb-true d e p.1)) n
-span_nested d (s ∷ w) e v x h n =
-    let p = and_parts (nat_le d 32) _ h in
-    let q = and_parts (not (is_close s.letter && d == 0)) _ p.1 in
-    and_from (nat_le d 32) _ p.0 (and_from _ _ q.0 (span_nested (after d s) w e v x q.1 n))
-
-valid_append : (v w : List Symbol) → all_valid v ≡ true → all_valid w ≡ true → all_valid (v ++ w) ≡ true
-valid_append [] w a b = b
-valid_append (s ∷ v) w a b =
-    let parts = and_parts (valid s) (all_valid v) a in
-    and_from (valid s) (all_valid (v ++ w)) parts.0 (valid_append v w parts.1 b)
-
--- modules of the code are valid
-all_are : (l : List Module) → all_valid (map symbol_of l) ≡ true
-all_are [] = refl
-all_are (m ∷ l) = and_from (valid (symbol_of m)) (all_valid (map symbol_of l)) (is_valid m) (all_are l)
 
 module _ (r : Rewriter) (m : Meaning) (joined : r.window.last.brackets ≡ m.opened) (l : Lawful m) where
   -- what flows on nests

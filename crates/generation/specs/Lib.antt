@@ -6,7 +6,6 @@ pub mod Laws
 pub mod Stream
 pub mod Goes
 pub mod Agreement
-pub mod Spans
 pub mod Windows
 pub mod Looking
 pub mod Bounds

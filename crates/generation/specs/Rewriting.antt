@@ -14,7 +14,7 @@ use Rattle.generation.specs.declared.rewriter.Rewriter.{Rewriter}
 use Rattle.generation.specs.Generations.{next, Part, adds, stops, added, worked}
 use Rattle.generation.specs.Stream.{Table, passed, onward, turn, streamed}
 use Rattle.generation.specs.Tables.{table}
-use Rattle.generation.specs.Spans.{spans}
+use Rattle.word.specs.Spans.{spans}
 use Rattle.generation.specs.Windows.{in_window, flow, Kept}
 
 -- what is worked out already

@@ -3,7 +3,7 @@ ghost use Rattle.std.specs.Prelude.{◌≡◌, ◌≤◌, true, map, length, dro
 ghost use Rattle.word.specs.Records.{symbol_of};
 ghost use Rattle.books.specs.Few.{modules_in};
 ghost use Rattle.books.specs.Kinds.{closed_book};
-ghost use Rattle.generation.specs.Spans.{spans};
+ghost use Rattle.word.specs.Spans.{spans};
 ghost use Rattle.generation.specs.Goes.{GoesOnBy};
 ghost use Rattle.generation.specs.Bounds.{bounded};
 

@@ -1,7 +1,7 @@
 // Modules that are read ahead.
 ghost use Rattle.std.specs.Prelude.{◌≡◌, ◌+◌, ◌≤◌, true, map, length, take, drop};
 ghost use Rattle.word.specs.Records.{symbol_of};
-ghost use Rattle.generation.specs.Spans.{spans};
+ghost use Rattle.word.specs.Spans.{spans};
 
 use word::depth::Depth;
 use word::module::Module;

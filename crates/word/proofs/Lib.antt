@@ -5,3 +5,6 @@ pub mod Splits
 pub mod When
 pub mod Made
 pub mod Among
+pub mod Spanning
+pub mod Joined
+pub mod Drawn

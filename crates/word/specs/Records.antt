@@ -1,9 +1,9 @@
 -- What the records of the code mean, and what one draw does.
-use Rattle.std.specs.Prelude.{◌≡◌, [], ◌∷◌, Some, None, Ok, Err, Option, Result}
+use Rattle.std.specs.Prelude.{◌≡◌, ℕ, ◌≤◌, ◌⊎◌, List, [], ◌∷◌, ◌++◌, map, length, take, drop, Some, None, Ok, Err, Option, Result}
 use Rattle.word.specs.declared.module.Module.{Module}
 use Rattle.word.specs.declared.fault.Fault.{Fault}
 use Rattle.word.specs.Symbols.{Symbol, symbol}
-use Rattle.word.specs.Words.{clean, broken, Meaning, after}
+use Rattle.word.specs.Words.{clean, broken, Meaning, after, depth}
 
 abbrev pub symbol_of : Module → Symbol
 symbol_of m = symbol m.letter m.count m.a m.b m.c
@@ -18,3 +18,22 @@ Draws s (Ok (Some m)) s' =
     × (s'.generation ≡ s.generation)
 Draws s (Ok None) s' = (s.told.modules ≡ []) × (s.told.ending ≡ clean) × (s' ≡ s)
 Draws s (Err f) s' = (s.told.modules ≡ []) × (s.told.ending ≡ broken f) × (s' ≡ s)
+
+-- What n draws in a row come to, each of which answers a module: the first n places hold the first n modules of s in order, the
+-- places behind them what they held, and s' tells the rest. No module is drawn only where there is no place for one, or where
+-- the word has come to a clean end.
+pub record Drew (s : Meaning) (places : List Module) (n : ℕ) (places' : List Module) (s' : Meaning) : Type 0 where
+  pub modules : s.told.modules ≡ map symbol_of (take n places') ++ s'.told.modules
+  pub ending : s'.told.ending ≡ s.told.ending
+  pub opened : s'.opened ≡ depth s.opened s.told.modules n
+  pub generation : s'.generation ≡ s.generation
+  pub fits : n ≤ length places
+  pub behind : drop n places' ≡ drop n places
+  pub some : n ≡ 0 → (places ≡ []) ⊎ ((s.told.modules ≡ []) × (s.told.ending ≡ clean))
+
+-- Some draws at once, into the first of some places: so many modules, or the fault that the word has come to, where there is a
+-- place and no module is left, and nothing changes.
+abbrev pub DrawsSome : Meaning → List Module → Result ℕ Fault → List Module → Meaning → Type 0
+DrawsSome s places (Ok n) places' s' = Drew s places n places' s'
+DrawsSome s places (Err f) places' s' =
+    (s.told.modules ≡ []) × (s.told.ending ≡ broken f) × (s' ≡ s) × (places' ≡ places) × (places ≡ [] → ⊥)

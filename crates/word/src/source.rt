@@ -1,7 +1,7 @@
 // A source of modules.
 ghost use Rattle.std.specs.Prelude.{◌≡◌};
 ghost use Rattle.word.specs.Words.{Meaning, Lawful};
-ghost use Rattle.word.specs.Records.{Draws};
+ghost use Rattle.word.specs.Records.{Draws, DrawsSome};
 
 use super::depth::Depth;
 use super::fault::Fault;
@@ -15,6 +15,21 @@ pub trait Source {
     /// The next module, which is then gone; none at a clean end, or the fault that ends the word, again and again.
     fn draw(&mut self) -> Result<Option<Module>, Fault>
         ensures { Draws (means self.old) result (means self.new) };
+
+    /// The next modules, which are then gone, written to the first of some places: how many, at least one where there is a place
+    /// and the word has not ended; or the fault that ends the word, again and again.
+    fn draw_some(&mut self, places: &mut [Module]) -> Result<usize, Fault>
+        ensures { DrawsSome (means self.old) places.old result places.new (means self.new) }
+    {
+        if places.is_empty() {
+            return Ok(0);
+        }
+        let Some(module) = self.draw()? else {
+            return Ok(0);
+        };
+        places[0] = module;
+        Ok(1)
+    }
 
     /// How many brackets are open now.
     fn open_brackets(&self) -> Depth

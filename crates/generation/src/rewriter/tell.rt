@@ -2,7 +2,7 @@ ghost use Rattle.std.specs.Prelude.{◌≡◌, ◌+◌, ◌<◌, ◌≤◌, true
 ghost use Rattle.word.specs.Words.{after};
 ghost use Rattle.word.specs.Records.{symbol_of};
 ghost use Rattle.books.specs.Few.{modules_in, symbols_in};
-ghost use Rattle.generation.specs.Spans.{spans};
+ghost use Rattle.word.specs.Spans.{spans};
 ghost use Rattle.generation.specs.Windows.{in_window};
 ghost use Rattle.generation.specs.Rewriting.{Begins, Tells, Passes};
 

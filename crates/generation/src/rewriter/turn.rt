@@ -6,7 +6,7 @@ ghost use Rattle.word.specs.Words.{after, broken, in_bounds};
 ghost use Rattle.word.specs.Records.{symbol_of};
 ghost use Rattle.books.specs.Few.{symbols_in};
 ghost use Rattle.generation.specs.Generations.{found, added};
-ghost use Rattle.generation.specs.Spans.{spans};
+ghost use Rattle.word.specs.Spans.{spans};
 ghost use Rattle.generation.specs.Windows.{in_window};
 ghost use Rattle.generation.specs.Rewriting.{Answers, pending, with_right, part_of, Sound, Turned, Worked};
 

@@ -7,7 +7,7 @@ use Rattle.books.specs.Few.{modules_in, symbols_in}
 use Rattle.books.specs.Kinds.{closed_book}
 use Rattle.generation.specs.Stream.{passed}
 use Rattle.generation.specs.Tables.{table}
-use Rattle.generation.proofs.Spanning.{span_last}
+use Rattle.word.proofs.Spanning.{span_last}
 use Rattle.generation.proofs.Passing.{pops, onwards}
 use Rattle.generation.proofs.rewriter.Rewriter.pass.Goals as goal
 

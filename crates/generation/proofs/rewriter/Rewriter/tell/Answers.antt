@@ -5,8 +5,8 @@ use Rattle.books.specs.Few.{modules_in}
 use Rattle.generation.specs.declared.rewriter.Rewriter.{Rewriter}
 use Rattle.word.specs.Words.{may_stand}
 use Rattle.word.specs.Records.{symbol_of}
-use Rattle.generation.specs.Spans.{spans}
-use Rattle.generation.proofs.Spanning.{span_stands}
+use Rattle.word.specs.Spans.{spans}
+use Rattle.word.proofs.Spanning.{span_stands}
 use Rattle.generation.proofs.Stepping.{there, behind}
 use Rattle.generation.proofs.Telling.{first_pending, rest, rest_spans, rest_fewer}
 use Rattle.generation.proofs.rewriter.Rewriter.tell.Goals as goal

@@ -3,10 +3,10 @@ use Rattle.word.specs.declared.module.Module.{Module}
 use Rattle.word.specs.Words.{after, may_stand}
 use Rattle.word.specs.Records.{symbol_of}
 use Rattle.generation.specs.declared.window.Window.{Window}
-use Rattle.generation.specs.Spans.{spans}
+use Rattle.word.specs.Spans.{spans}
 use Rattle.generation.specs.Windows.{in_window}
 use Rattle.generation.proofs.Rowing.{part_less}
-use Rattle.generation.proofs.Spanning.{one_less, span_stands}
+use Rattle.word.proofs.Spanning.{one_less, span_stands}
 use Rattle.generation.proofs.Stepping.{there, behind}
 use Rattle.generation.proofs.window.Window.pop.Goals as goal
 

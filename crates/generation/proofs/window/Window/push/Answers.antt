@@ -7,10 +7,10 @@ use Rattle.word.specs.Symbols.{is_close}
 use Rattle.word.specs.Words.{after, may_stand}
 use Rattle.word.specs.Records.{symbol_of}
 use Rattle.generation.specs.declared.window.Window.{Window}
-use Rattle.generation.specs.Spans.{spans}
+use Rattle.word.specs.Spans.{spans}
 use Rattle.generation.specs.Windows.{in_window}
 use Rattle.generation.proofs.Rowing.{part_more}
-use Rattle.generation.proofs.Spanning.{stands_low, one_more}
+use Rattle.word.proofs.Spanning.{stands_low, one_more}
 use Rattle.generation.proofs.Stepping.{behind}
 use Rattle.generation.proofs.window.Window.push.Goals as goal
 

@@ -4,7 +4,7 @@ use Rattle.std.proofs.lemmas.Bool.Decides.{nat_tests}
 use Rattle.std.proofs.lemmas.Bool.{and_parts, and_from, eqb-true}
 use Rattle.word.specs.Symbols.{Symbol, is_close}
 use Rattle.word.specs.Words.{after, may_stand}
-use Rattle.generation.specs.Spans.{spans}
+use Rattle.word.specs.Spans.{spans}
 
 pub no_span : (d : ℕ) → d ≤ 32 → spans d [] d ≡ true
 no_span d h = and_from (leb d 32) (eqb d d) (le-leb d 32 h) (eq-eqb d d refl)

@@ -1,0 +1,33 @@
+-- One word behind another: it is valid and nests where both parts do.
+use Rattle.std.proofs.Common.{◌≡◌, ℕ, true, not, ◌&&◌, eqb, leb, List, [], ◌∷◌, ◌++◌, map, length, sym, refl, subst}
+use Rattle.std.proofs.lemmas.Bool.{and_parts, and_from, eqb-true}
+use Rattle.word.specs.declared.module.Module.{Module}
+use Rattle.word.specs.Symbols.{Symbol, is_close, valid}
+use Rattle.word.specs.Words.{Ending, after, depth, all_valid, nested}
+use Rattle.word.specs.Records.{symbol_of}
+use Rattle.word.specs.Spans.{spans}
+use Rattle.word.proofs.Sound.{is_valid}
+
+-- what is nested behind modules is nested with them
+pub span_nested : (d : ℕ) (w : List Symbol) (e : ℕ) (v : List Symbol) (x : Ending) → spans d w e ≡ true → nested e v x ≡ true → nested d (w ++ v) x ≡ true
+span_nested d [] e v x h n = let p = and_parts (leb d 32) (eqb d e) h in subst (λ y. nested y v x ≡ true) (sym (eqb-true d e p.1)) n
+span_nested d (s ∷ w) e v x h n =
+    let p = and_parts (leb d 32) _ h in
+    let q = and_parts (not (is_close s.letter && eqb d 0)) _ p.1 in
+    and_from (leb d 32) _ p.0 (and_from _ _ q.0 (span_nested (after d s) w e v x q.1 n))
+
+pub valid_append : (v w : List Symbol) → all_valid v ≡ true → all_valid w ≡ true → all_valid (v ++ w) ≡ true
+valid_append [] w a b = b
+valid_append (s ∷ v) w a b =
+    let parts = and_parts (valid s) (all_valid v) a in
+    and_from (valid s) (all_valid (v ++ w)) parts.0 (valid_append v w parts.1 b)
+
+-- modules of the code are valid
+pub all_are : (l : List Module) → all_valid (map symbol_of l) ≡ true
+all_are [] = refl
+all_are (m ∷ l) = and_from (valid (symbol_of m)) (all_valid (map symbol_of l)) (is_valid m) (all_are l)
+
+-- the depth behind modules that lead to e
+pub span_depth : (d : ℕ) (v : List Symbol) (e : ℕ) (w : List Symbol) → spans d v e ≡ true → depth d (v ++ w) (length v) ≡ e
+span_depth d [] e w h = eqb-true d e (and_parts (leb d 32) (eqb d e) h).1
+span_depth d (s ∷ v) e w h = span_depth (after d s) v e w (and_parts (not (is_close s.letter && eqb d 0)) (spans (after d s) v e) (and_parts (leb d 32) _ h).1).1
