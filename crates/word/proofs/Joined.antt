@@ -1,12 +1,13 @@
 -- One word behind another: it is valid and nests where both parts do.
-use Rattle.std.proofs.Common.{◌≡◌, ℕ, true, not, ◌&&◌, eqb, leb, List, [], ◌∷◌, ◌++◌, map, length, sym, refl, subst}
+use Rattle.std.proofs.Common.{◌≡◌, ℕ, true, not, ◌&&◌, eqb, leb, List, [], ◌∷◌, ◌++◌, map, length, sym, refl, ap, ◌∙◌, subst, append_assoc}
 use Rattle.std.proofs.lemmas.Bool.{and_parts, and_from, eqb-true}
 use Rattle.word.specs.declared.module.Module.{Module}
 use Rattle.word.specs.Symbols.{Symbol, is_close, valid}
-use Rattle.word.specs.Words.{Ending, after, depth, all_valid, nested}
-use Rattle.word.specs.Records.{symbol_of}
+use Rattle.word.specs.Words.{Ending, Meaning, after, depth, all_valid, nested}
+use Rattle.word.specs.Records.{symbol_of, Tells}
 use Rattle.word.specs.Spans.{spans}
 use Rattle.word.proofs.Sound.{is_valid}
+use Rattle.word.proofs.Spanning.{no_span, span_first}
 
 -- what is nested behind modules is nested with them
 pub span_nested : (d : ℕ) (w : List Symbol) (e : ℕ) (v : List Symbol) (x : Ending) → spans d w e ≡ true → nested e v x ≡ true → nested d (w ++ v) x ≡ true
@@ -28,6 +29,37 @@ all_are [] = refl
 all_are (m ∷ l) = and_from (valid (symbol_of m)) (all_valid (map symbol_of l)) (is_valid m) (all_are l)
 
 -- the depth behind modules that lead to e
-pub span_depth : (d : ℕ) (v : List Symbol) (e : ℕ) (w : List Symbol) → spans d v e ≡ true → depth d (v ++ w) (length v) ≡ e
-span_depth d [] e w h = eqb-true d e (and_parts (leb d 32) (eqb d e) h).1
-span_depth d (s ∷ v) e w h = span_depth (after d s) v e w (and_parts (not (is_close s.letter && eqb d 0)) (spans (after d s) v e) (and_parts (leb d 32) _ h).1).1
+pub span_depth : (d : ℕ) (v : List Symbol) (e : ℕ) → spans d v e ≡ true → depth d v (length v) ≡ e
+span_depth d [] e h = eqb-true d e (and_parts (leb d 32) (eqb d e) h).1
+span_depth d (s ∷ v) e h = span_depth (after d s) v e (and_parts (not (is_close s.letter && eqb d 0)) (spans (after d s) v e) (and_parts (leb d 32) _ h).1).1
+
+-- the depth behind two parts of a word
+pub depth_append : (d : ℕ) (v w : List Symbol) → depth d (v ++ w) (length (v ++ w)) ≡ depth (depth d v (length v)) w (length w)
+depth_append d [] w = refl
+depth_append d (s ∷ v) w = depth_append (after d s) v w
+
+-- modules that lead to e, cut in two
+pub span_split : (d : ℕ) (v w : List Symbol) (e : ℕ) → spans d (v ++ w) e ≡ true → (spans d v (depth d v (length v)) ≡ true) × (spans (depth d v (length v)) w e ≡ true)
+span_split d [] w e h = (no_span d (span_first d w e h), h)
+span_split d (s ∷ v) w e h =
+    let p = and_parts (leb d 32) _ h in
+    let q = and_parts (not (is_close s.letter && eqb d 0)) (spans (after d s) (v ++ w) e) p.1 in
+    let r = span_split (after d s) v w e q.1 in
+    (and_from (leb d 32) _ p.0 (and_from _ _ q.0 r.0), r.1)
+
+-- two parts that meet
+pub span_join : (d : ℕ) (v : List Symbol) (x : ℕ) (w : List Symbol) (e : ℕ) → spans d v x ≡ true → spans x w e ≡ true → spans d (v ++ w) e ≡ true
+span_join d [] x w e a b = let p = and_parts (leb d 32) (eqb d x) a in subst (λ y. spans y w e ≡ true) (sym (eqb-true d x p.1)) b
+span_join d (s ∷ v) x w e a b =
+    let p = and_parts (leb d 32) _ a in
+    let q = and_parts (not (is_close s.letter && eqb d 0)) (spans (after d s) v x) p.1 in
+    and_from (leb d 32) _ p.0 (and_from _ _ q.0 (span_join (after d s) v x w e q.1 b))
+
+-- some modules told, then others
+pub tells_on : (s s' s'' : Meaning) (v w : List Symbol) → Tells s v s' → Tells s' w s'' → Tells s (v ++ w) s''
+tells_on s s' s'' v w a b = record {
+  modules = a.modules ∙ ap (λ l. v ++ l) b.modules ∙ sym (append_assoc v w s''.told.modules);
+  ending = b.ending ∙ a.ending;
+  opened = b.opened ∙ ap (λ d. depth d w (length w)) a.opened ∙ sym (depth_append s.opened v w);
+  generation = b.generation ∙ a.generation;
+}

@@ -19,14 +19,17 @@ Draws s (Ok (Some m)) s' =
 Draws s (Ok None) s' = (s.told.modules ≡ []) × (s.told.ending ≡ clean) × (s' ≡ s)
 Draws s (Err f) s' = (s.told.modules ≡ []) × (s.told.ending ≡ broken f) × (s' ≡ s)
 
--- What n draws in a row come to, each of which answers a module: the first n places hold the first n modules of s in order, the
--- places behind them what they held, and s' tells the rest. No module is drawn only where there is no place for one, or where
--- the word has come to a clean end.
-pub record Drew (s : Meaning) (places : List Module) (n : ℕ) (places' : List Module) (s' : Meaning) : Type 0 where
-  pub modules : s.told.modules ≡ map symbol_of (take n places') ++ s'.told.modules
+-- From s to s' the modules v are told.
+pub record Tells (s : Meaning) (v : List Symbol) (s' : Meaning) : Type 0 where
+  pub modules : s.told.modules ≡ v ++ s'.told.modules
   pub ending : s'.told.ending ≡ s.told.ending
-  pub opened : s'.opened ≡ depth s.opened s.told.modules n
+  pub opened : s'.opened ≡ depth s.opened v (length v)
   pub generation : s'.generation ≡ s.generation
+
+-- What n draws in a row come to, each of which answers a module: the first n places hold these modules in order, the places
+-- behind them what they held. No module is drawn only where there is no place for one, or where the word has come to a clean end.
+pub record Drew (s : Meaning) (places : List Module) (n : ℕ) (places' : List Module) (s' : Meaning) : Type 0 where
+  pub told : Tells s (map symbol_of (take n places')) s'
   pub fits : n ≤ length places
   pub behind : drop n places' ≡ drop n places
   pub some : n ≡ 0 → (places ≡ []) ⊎ ((s.told.modules ≡ []) × (s.told.ending ≡ clean))
