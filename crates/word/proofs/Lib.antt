@@ -8,3 +8,4 @@ pub mod Among
 pub mod Spanning
 pub mod Joined
 pub mod Drawn
+pub mod Leading

@@ -1,12 +1,19 @@
 -- What the records of the code mean, and what one draw does.
-use Rattle.std.specs.Prelude.{◌≡◌, ℕ, ◌≤◌, ◌⊎◌, List, [], ◌∷◌, ◌++◌, map, length, take, drop, Some, None, Ok, Err, Option, Result}
+use Rattle.std.specs.Prelude.{◌≡◌, ℕ, true, false, ◌≤◌, ◌⊎◌, List, [], ◌∷◌, ◌++◌, map, length, take, drop, Some, None, Ok, Err, Option, Result}
+use Rattle.word.specs.declared.depth.Depth.{Depth}
 use Rattle.word.specs.declared.module.Module.{Module}
 use Rattle.word.specs.declared.fault.Fault.{Fault}
 use Rattle.word.specs.Symbols.{Symbol, symbol}
+use Rattle.word.specs.Spans.{spans}
 use Rattle.word.specs.Words.{clean, broken, Meaning, after, depth}
 
 abbrev pub symbol_of : Module → Symbol
 symbol_of m = symbol m.letter m.count m.a m.b m.c
+
+-- from d open brackets the modules lead to so many, or they may not stand there
+abbrev pub Leads : ℕ → List Symbol → Option Depth → Type 0
+Leads d w None = (e : ℕ) → spans d w e ≡ false
+Leads d w (Some e) = spans d w e.brackets ≡ true
 
 -- One draw answers, and takes a source that means s to one that means s': the first module goes, and a bracket counts; at
 -- the end the ending is told, and nothing changes.

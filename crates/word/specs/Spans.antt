@@ -1,4 +1,4 @@
--- Internal. Modules between two depths.
+-- Modules between two depths.
 use Rattle.std.specs.Prelude.{ℕ, Bool, not, ◌&&◌, List, [], ◌∷◌, ◌==◌, nat_le}
 use Rattle.word.specs.Symbols.{Symbol, is_close}
 use Rattle.word.specs.Words.{after}
