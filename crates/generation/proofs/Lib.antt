@@ -8,7 +8,6 @@ pub mod Causes
 pub mod Lawful
 pub mod Turning
 pub mod Rowing
-pub mod Seeing
 pub mod Looks
 pub mod Seeking
 pub mod Onwards
@@ -16,6 +15,8 @@ pub mod Outcoming
 pub mod Passing
 pub mod Answered
 pub mod Noting
-pub mod Telling
 pub mod Stepping
+pub mod Refilling
+pub mod Telling
 pub mod Drawing
+pub mod Wrote

@@ -1,22 +1,21 @@
 -- What is found on the right of the module in hand decides its part.
-use Rattle.std.proofs.Common.{◌≡◌, ◌<◌, true, false, cond, List, [], ◌∷◌, length, get_or, drop, Some, None, Ok, Err, Option, Result, inl, inr, sym, ap, ◌∙◌, subst}
-use Rattle.std.proofs.lemmas.Bool.{cond-true, cond-false}
+use Rattle.std.proofs.Common.{◌≡◌, Bool, true, false, cond, not, ◌||◌, List, [], ◌∷◌, drop, Some, None, Ok, Err, Option, Result, inl, inr, sym, refl, ap, ◌∙◌, subst}
+use Rattle.std.proofs.lemmas.Bool.{cond-true, cond-false, true≢false}
 use Rattle.word.specs.declared.fault.Fault.{Fault}
 use Rattle.word.specs.declared.module.Module.{Module}
 use Rattle.word.specs.Symbols.{Symbol, is_bracket}
-use Rattle.word.specs.Words.{Ending, Told, Meaning}
-use Rattle.word.specs.Records.{symbol_of}
+use Rattle.word.specs.Words.{Ending, Meaning}
 use Rattle.books.specs.Ahead.{looks_ahead}
 use Rattle.books.specs.Kinds.{closed_book}
 use Rattle.generation.specs.declared.rewriter.Rewriter.{Rewriter}
-use Rattle.generation.specs.declared.window.Window.{Window}
 use Rattle.generation.specs.Generations.{Part, stops, found, added}
 use Rattle.generation.specs.Stream.{Look, ended, scan, turn_with, turn_by, turn}
 use Rattle.generation.specs.Tables.{table}
-use Rattle.generation.specs.Windows.{in_window, flow, Kept}
+use Rattle.generation.specs.Windows.{flow}
 use Rattle.generation.specs.Looking.{Looks}
-use Rattle.generation.specs.Rewriting.{by_right, part_of, part_in}
-use Rattle.generation.proofs.Seeing.{held_stands}
+use Rattle.generation.specs.declared.beyond.Beyond.{Beyond}
+use Rattle.generation.specs.Writing.{Sees, Seeks}
+use Rattle.generation.specs.Rewriting.{with_right, by_right, part_of, part_in}
 
 module _ (r : Rewriter) (s : Symbol) where
   abbrev by : Ending → Look → Part
@@ -50,30 +49,42 @@ sought r m s w x plain ahead h same =
     ∙ sym (cond-false (is_bracket s.letter) (added g r.produced r.place (s ∷ [])) (cond (looks_ahead s (closed_book r.book).rules) (by r s e l) with_none) plain)
     ∙ ap (λ k. turn (closed_book r.book) k e r.produced r.place r.window.first.brackets left s w) same
 
--- the module in hand is the first of what flows on, and what was looked at stands behind it
+-- what stands behind the module in hand was looked at
 pub sought_in
-    : (r : Rewriter) (v : Window) (m m' : Meaning)
-    → Kept v m r.window m'
-    → (x : Module)
-    → r.generation ≡ m'.generation
-    → 0 < length (in_window v)
-    → x ≡ get_or (in_window v) 0 x
-    → is_bracket x.letter ≡ false
-    → looks_ahead (symbol_of x) (closed_book r.book).rules ≡ true
-    → (y : Result (Option Module) Fault)
-    → Looks (found r.generation r.place 30) (scan (closed_book r.book).ignored 64 0 (drop 1 (flow v m).modules)) (flow v m).ending y
-    → (s : Symbol) (w : List Symbol)
-    → (flow r.window m').modules ≡ s ∷ w
-    → part_of r s y ≡ part_in r m' s w
-sought_in r v m m' kept x number some is plain ahead y looks s w e =
-    let here : drop 0 (flow v m).modules ≡ symbol_of x ∷ drop 1 (flow v m).modules = held_stands v m 0 x some is in
-    let whole : s ∷ w ≡ symbol_of x ∷ drop 1 (flow v m).modules = sym e ∙ ap (λ (t : Told). t.modules) kept.flows ∙ here in
-    let first : s ≡ symbol_of x = cc in
-    let rest : drop 1 (flow v m).modules ≡ w = cc in
-    let same : (flow v m).ending ≡ (flow r.window m').ending = sym (ap (λ (t : Told). t.ending) kept.flows) in
-    sought r m' s w y
-    (ap (λ (z : Symbol). is_bracket z.letter) first ∙ plain)
-    (ap (λ (z : Symbol). looks_ahead z (closed_book r.book).rules) first ∙ ahead)
-    (subst (λ (k : Ending). Looks (found r.generation r.place 30) (scan (closed_book r.book).ignored 64 0 w) k y) same
-    (subst (λ (l : List Symbol). Looks (found r.generation r.place 30) (scan (closed_book r.book).ignored 64 0 l) (flow v m).ending y) rest looks))
+    : (r : Rewriter) (m : Meaning) (s : Symbol) (w : List Symbol) (y : Result (Option Module) Fault)
+    → is_bracket s.letter ≡ false
+    → looks_ahead s (closed_book r.book).rules ≡ true
+    → Looks (found r.generation r.place 30) (scan (closed_book r.book).ignored 64 0 (drop 1 (flow r.window m).modules)) m.told.ending y
+    → r.generation ≡ m.generation
+    → (flow r.window m).modules ≡ s ∷ w
+    → part_of r s y ≡ part_in r m s w
+sought_in r m s w y plain ahead looks number e =
+    sought r m s w y plain ahead
+    (subst (λ (l : List Symbol). Looks (found r.generation r.place 30) (scan (closed_book r.book).ignored 64 0 l) m.told.ending y) (ap (drop 1) e) looks)
     number
+
+-- a module that does not look ahead: what stands behind it plays no part
+pub unsought
+    : (r : Rewriter) (m : Meaning) (s : Symbol) (w : List Symbol)
+    → (is_bracket s.letter || not (looks_ahead s (closed_book r.book).rules)) ≡ true
+    → r.generation ≡ m.generation
+    → part_of r s (Ok None) ≡ part_in r m s w
+unsought r m s w blind number =
+    go (is_bracket s.letter) (looks_ahead s (closed_book r.book).rules) blind
+    ∙ ap (λ k. turn (closed_book r.book) k m.told.ending r.produced r.place r.window.first.brackets (table r.lefts r.window.first.brackets) s w) number
+  where
+    go : (b a : Bool) → (b || not a) ≡ true → cond b (added r.generation r.produced r.place (s ∷ [])) (with_right r s None) ≡ cond b (added r.generation r.produced r.place (s ∷ [])) (cond a (by r s m.told.ending (scan (closed_book r.book).ignored 64 0 w)) (with_right r s None))
+    go true a h = refl
+    go false true h = absurd (true≢false (sym h))
+    go false false h = refl
+
+-- what a look sees is what is sought
+pub seen_sought
+    : (r : Rewriter) (s : Symbol) (x : Beyond)
+    → is_bracket s.letter ≡ false
+    → looks_ahead s (closed_book r.book).rules ≡ true
+    → (o : Option (Result (Option Module) Fault))
+    → Sees r x o
+    → Seeks r s x o
+seen_sought r s x plain ahead None h = h
+seen_sought r s x plain ahead (Some a) h = (h.0, λ m fits number w e. sought_in r m s w a plain ahead (h.1 m fits) number e)

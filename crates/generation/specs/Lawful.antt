@@ -1,18 +1,15 @@
 -- Internal. What a generation has still to tell is lawful in every state, where what the source below means is.
-use Rattle.std.specs.Prelude.{◌≡◌, ℕ, true, not, ◌&&◌, List, [], ◌∷◌, ◌++◌, drop, map, Some, None, Option, ◌==◌, nat_le, refl}
+use Rattle.std.specs.Prelude.{◌≡◌, true, drop, Some, None, Option, refl}
 use lib.ListN.{length-append, length-map}
 use Rattle.std.proofs.Common.{arith, sym, subst}
-use Rattle.std.proofs.lemmas.Bool.{and_parts, and_from, eqb-true, le-leb}
+use Rattle.std.proofs.lemmas.Bool.{le-leb}
 use Rattle.word.specs.declared.fault.Fault.{Fault}
-use Rattle.word.specs.declared.module.Module.{Module}
-use Rattle.word.specs.Symbols.{Symbol, is_close, valid}
-use Rattle.word.specs.Words.{Ending, Meaning, after, all_valid, nested, Lawful}
+use Rattle.word.specs.Words.{Meaning, nested, Lawful}
 use Rattle.word.specs.Records.{symbol_of}
 use Rattle.word.proofs.Joined.{span_nested, valid_append, all_are}
 use Rattle.books.specs.Few.{modules_in}
 use Rattle.generation.specs.declared.rewriter.Rewriter.{Rewriter}
 use Rattle.generation.specs.Bounds.{bounded}
-use Rattle.word.specs.Spans.{spans}
 use Rattle.generation.specs.Goes.{GoesOn}
 use Rattle.generation.specs.Tables.{table}
 use Rattle.generation.specs.Windows.{in_window, held, flow}

@@ -11,4 +11,5 @@ pub mod Looking
 pub mod Bounds
 pub mod Tables
 pub mod Rewriting
+pub mod Writing
 pub mod Lawful

@@ -1,19 +1,13 @@
 -- Internal. A look ahead, module by module.
-use Rattle.std.specs.Prelude.{◌≡◌, ℕ, suc, ◌+◌, ◌≤◌, Bool, ◌⊎◌, List, [], ◌∷◌, drop, Some, None, Ok, Err, Option, Result}
+use Rattle.std.specs.Prelude.{◌≡◌, ℕ, suc, ◌≤◌, Bool, ◌⊎◌, List, ◌∷◌, Some, None, Ok, Err, Option, Result}
 use Rattle.word.specs.declared.fault.Fault.{Fault}
 use Rattle.word.specs.declared.module.Module.{Module}
 use Rattle.word.specs.Symbols.{Symbol}
-use Rattle.word.specs.Words.{Ending, clean, broken, Told}
+use Rattle.word.specs.Words.{Ending, clean, broken}
 use Rattle.word.specs.Records.{symbol_of}
-use Rattle.generation.specs.declared.layer.sifted.Sifted.{Sifted}
-use Rattle.generation.specs.declared.layer.sifted.Sifted.TheVariants as sifted
+use Rattle.generation.specs.declared.rewriter.sifted.Sifted.{Sifted}
+use Rattle.generation.specs.declared.rewriter.sifted.Sifted.TheVariants as sifted
 use Rattle.generation.specs.Stream.{Look, neighbour, closed, ended, spent, scan}
-
--- what stands at position i of a told word: a module, or how it ends
-abbrev pub Stands : Told → ℕ → Result (Option Module) Fault → Type 0
-Stands t i (Ok (Some x)) = drop i t.modules ≡ symbol_of x ∷ drop (i + 1) t.modules
-Stands t i (Ok None) = (drop i t.modules ≡ []) × (t.ending ≡ clean)
-Stands t i (Err f) = (drop i t.modules ≡ []) × (t.ending ≡ broken f)
 
 -- what the module s says in a look ahead, with r brackets open since it began
 abbrev pub Sifts : (ℕ → Bool) → ℕ → Symbol → Sifted → Type 0

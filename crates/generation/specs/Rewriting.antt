@@ -1,21 +1,23 @@
 -- Internal. What a generation has still to tell, in every state.
-use Rattle.std.specs.Prelude.{◌≡◌, ℕ, ◌+◌, ◌≤◌, true, cond, List, [], ◌∷◌, ◌++◌, map, length, drop, Some, None, Ok, Err, Option, Result}
+use Rattle.std.specs.Prelude.{◌≡◌, ℕ, ◌+◌, ◌<◌, ◌≤◌, true, cond, List, [], ◌∷◌, ◌++◌, map, length, take, drop, Some, None, Ok, Err, Option, Result}
 use Rattle.std.specs.Option.{option_map}
 use Rattle.word.specs.declared.fault.Fault.{Fault}
 use Rattle.word.specs.declared.module.Module.{Module}
 use Rattle.word.specs.Symbols.{Symbol, is_bracket}
-use Rattle.word.specs.Words.{broken, Told, Meaning, after, in_bounds}
+use Rattle.word.specs.Words.{broken, Told, Meaning, after, depth, in_bounds}
 use Rattle.word.specs.Records.{symbol_of}
 use Rattle.books.specs.declared.closed_book.ClosedBook.{ClosedBook}
 use Rattle.books.specs.Outcomes.{becomes}
 use Rattle.books.specs.Few.{modules_in, symbols_in}
 use Rattle.books.specs.Kinds.{closed_book}
+use Rattle.generation.specs.declared.beyond.Beyond.{Beyond}
+use Rattle.generation.specs.declared.beyond.Beyond.TheVariants.{Unread}
 use Rattle.generation.specs.declared.rewriter.Rewriter.{Rewriter}
 use Rattle.generation.specs.Generations.{next, Part, adds, stops, added, worked}
 use Rattle.generation.specs.Stream.{Table, passed, onward, turn, streamed}
 use Rattle.generation.specs.Tables.{table}
 use Rattle.word.specs.Spans.{spans}
-use Rattle.generation.specs.Windows.{in_window, flow, Kept}
+use Rattle.generation.specs.Windows.{in_window, flow, Kept, Fits}
 
 -- what is worked out already
 abbrev pub pending : Rewriter → List Symbol
@@ -79,6 +81,13 @@ pub record ReadsOn (r : Rewriter) (m : Meaning) (r' : Rewriter) (m' : Meaning) :
   pub reads : Reads r r'
   pub kept : Kept r.window m r'.window m'
 
+-- modules are read from below, at least one, or how the word below ends is known then
+pub record ReadsBeyond (r : Rewriter) (m : Meaning) (x : Beyond) (r' : Rewriter) (m' : Meaning) : Type 0 where
+  pub on : ReadsOn r m r' m'
+  pub meets : r'.window.last.brackets ≡ m'.opened
+  pub fits : Fits x m'
+  pub shorter : x ≡ Unread → length m'.told.modules < length m.told.modules
+
 -- nothing is read of a word of generation g, and d brackets are open
 pub record Begins (b : ClosedBook) (g d : ℕ) (r : Rewriter) : Type 0 where
   pub book_is : r.book ≡ b
@@ -110,10 +119,15 @@ pub record Worked (p : Part) (e : ℕ) (r : Rewriter) (x : Result (Unit {0}) Fau
   pub none_pending : pending r' ≡ []
   pub answers : Answers r.produced r.window.first.brackets e p x (symbols_in r'.growth)
 
--- the next module is told, or none is pending
-abbrev pub Tells : Rewriter → Option Module → Rewriter → Type 0
-Tells r None r' = (pending r ≡ []) × (r' ≡ r)
-Tells r (Some x) r' = (pending r ≡ symbol_of x ∷ pending r') × (r'.opened.brackets ≡ after r.opened.brackets (symbol_of x)) × (r'.fault ≡ r.fault) × Stays r r'
+-- the first n of what is pending are told, into the first n places
+pub record TellsSome (r : Rewriter) (places : List Module) (n : ℕ) (places' : List Module) (r' : Rewriter) : Type 0 where
+  pub stays : Stays r r'
+  pub fault_stays : r'.fault ≡ r.fault
+  pub told : pending r ≡ map symbol_of (take n places') ++ pending r'
+  pub opened : r'.opened.brackets ≡ depth r.opened.brackets (map symbol_of (take n places')) (length (map symbol_of (take n places')))
+  pub fits : n ≤ length places
+  pub behind : drop n places' ≡ drop n places
+  pub all : n < length places → pending r' ≡ []
 
 -- the module x in hand is passed over, and the modules v are pending
 pub record Passes (r : Rewriter) (x : Module) (v : List Symbol) (r' : Rewriter) : Type 0 where

@@ -4,8 +4,6 @@ ghost use Rattle.std.specs.Prelude.{◌≡◌};
 use super::rewriter::Rewriter;
 use word::source::Source;
 
-pub(crate) mod ahead;
-pub(crate) mod sifted;
 pub mod source;
 
 /// A generation of the word below. It reads from below no further ahead than the module in hand needs.

@@ -6,6 +6,7 @@ ghost use Rattle.generation.specs.Growths.{Growths};
 ghost use Rattle.generation.specs.Laws.{StaysLawful};
 ghost use Rattle.generation.specs.Sentences.{NeighboursAre};
 
+pub mod beyond;
 pub mod cause;
 pub mod layer;
 pub mod lefts;

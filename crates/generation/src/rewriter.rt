@@ -14,8 +14,11 @@ use books::modules::Modules;
 use word::depth::Depth;
 use word::fault::Fault;
 
+pub(crate) mod seek;
+pub(crate) mod sifted;
 pub mod tell;
 pub mod turn;
+pub(crate) mod write;
 
 /// The book, the generation number of the word below, the modules read ahead, one left neighbour for each depth, how many
 /// modules are in the result, the position of the next module of the word below, what is to be told next with the brackets open

@@ -7,6 +7,7 @@ use word::depth::Depth;
 use word::module::Module;
 
 pub mod fill;
+pub mod refill;
 
 /// Up to 65 modules of the word below, and how many brackets are open before the first and behind the last.
 #[derive(Clone, Copy)]

@@ -1,9 +1,9 @@
 -- One word behind another: it is valid and nests where both parts do.
-use Rattle.std.proofs.Common.{◌≡◌, ℕ, true, not, ◌&&◌, eqb, leb, List, [], ◌∷◌, ◌++◌, map, length, sym, refl, ap, ◌∙◌, subst, append_assoc}
+use Rattle.std.proofs.Common.{◌≡◌, ℕ, ◌≤◌, true, not, ◌&&◌, eqb, leb, List, [], ◌∷◌, ◌++◌, map, length, sym, refl, ap, ◌∙◌, subst, append_assoc, arith, leb-true}
 use Rattle.std.proofs.lemmas.Bool.{and_parts, and_from, eqb-true}
 use Rattle.word.specs.declared.module.Module.{Module}
 use Rattle.word.specs.Symbols.{Symbol, is_close, valid}
-use Rattle.word.specs.Words.{Ending, Meaning, after, depth, all_valid, nested}
+use Rattle.word.specs.Words.{Ending, clean, broken, Meaning, after, depth, all_valid, nested}
 use Rattle.word.specs.Records.{symbol_of, Tells}
 use Rattle.word.specs.Spans.{spans}
 use Rattle.word.proofs.Sound.{is_valid}
@@ -63,3 +63,17 @@ tells_on s s' s'' v w a b = record {
   opened = b.opened ∙ ap (λ d. depth d w (length w)) a.opened ∙ sym (depth_append s.opened v w);
   generation = b.generation ∙ a.generation;
 }
+
+-- what nests begins no deeper than 32
+nested_low : (d : ℕ) (w : List Symbol) (x : Ending) → nested d w x ≡ true → d ≤ 32
+nested_low d [] clean h = let same : d ≡ 0 = eqb-true d 0 h in omega arith
+nested_low d [] (broken f) h = leb-true d 32 h
+nested_low d (s ∷ w) x h = leb-true d 32 (and_parts (leb d 32) _ h).0
+
+-- the first modules of what nests lead to the depth behind them
+pub nested_span : (d : ℕ) (v w : List Symbol) (x : Ending) → nested d (v ++ w) x ≡ true → spans d v (depth d v (length v)) ≡ true
+nested_span d [] w x h = no_span d (nested_low d w x h)
+nested_span d (s ∷ v) w x h =
+    let p = and_parts (leb d 32) _ h in
+    let q = and_parts (not (is_close s.letter && eqb d 0)) (nested (after d s) (v ++ w) x) p.1 in
+    and_from (leb d 32) _ p.0 (and_from _ _ q.0 (nested_span (after d s) v w x q.1))

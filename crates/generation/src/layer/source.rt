@@ -1,10 +1,12 @@
 // A generation as a source.
 ghost use Rattle.std.specs.Prelude.{◌≡◌};
+ghost use Rattle.word.specs.Records.{DrawsSome};
 ghost use Rattle.books.specs.Kinds.{closed_book};
 ghost use Rattle.generation.specs.Generations.{generated};
 ghost use Rattle.generation.specs.Rewriting.{left_in};
 ghost use Rattle.generation.specs.Lawful.{lawful_in};
 
+use super::super::beyond::Beyond;
 use super::super::rewriter::Rewriter;
 use super::Generation;
 use books::closed_book::ClosedBook;
@@ -25,6 +27,19 @@ impl<S: Source + Drop> Generation<S> {
             inner: Rewriter::new(book, generation, depth),
         }
     }
+
+    // The next modules, written to the first of some places. What grows them is no part of this type, and compiled once.
+    fn write(&mut self, places: &mut [Module]) -> Result<usize, Fault>
+        ensures { DrawsSome (left_in self.old.inner (S.Source.means self.old.below)) places.old result places.new (left_in self.new.inner (S.Source.means self.new.below)) }
+    {
+        let mut beyond = Beyond::Unread;
+        loop {
+            if let Some(count) = self.inner.write(places, beyond)? {
+                return Ok(count);
+            }
+            beyond = self.inner.read(&mut self.below);
+        }
+    }
 }
 
 impl<S: Source + Drop> Source for Generation<S> {
@@ -33,20 +48,15 @@ impl<S: Source + Drop> Source for Generation<S> {
     ghost lawful = { λ s. lawful_in s.inner _ s.joined (S.Source.lawful s.below) };
 
     fn draw(&mut self) -> Result<Option<Module>, Fault> {
-        loop {
-            if let Some(module) = self.inner.tell() {
-                return Ok(Some(module));
-            }
-            if let Some(fault) = self.inner.fault {
-                return Err(fault);
-            }
-            if self.front()?.is_none() {
-                return Ok(None);
-            }
-            let right = self.seek();
-            let symbol = self.inner.window.at(0);
-            self.inner.turn(symbol, right);
+        let mut place = [Module::BLANK];
+        if self.write(&mut place)? == 0 {
+            return Ok(None);
         }
+        Ok(Some(place[0]))
+    }
+
+    fn draw_some(&mut self, places: &mut [Module]) -> Result<usize, Fault> {
+        self.write(places)
     }
 
     fn open_brackets(&self) -> Depth {

@@ -4,8 +4,9 @@ ghost use Rattle.word.specs.Records.{symbol_of};
 ghost use Rattle.books.specs.Few.{modules_in, symbols_in};
 ghost use Rattle.word.specs.Spans.{spans};
 ghost use Rattle.generation.specs.Windows.{in_window};
-ghost use Rattle.generation.specs.Rewriting.{Begins, Tells, Passes};
+ghost use Rattle.generation.specs.Rewriting.{Begins, ReadsBeyond, TellsSome, Passes};
 
+use super::super::beyond::Beyond;
 use super::super::lefts::Lefts;
 use super::super::window::Window;
 use super::Rewriter;
@@ -13,6 +14,7 @@ use books::closed_book::ClosedBook;
 use books::modules::Modules;
 use word::depth::Depth;
 use word::module::Module;
+use word::source::Source;
 
 /// No word has a module at this position.
 const END: u32 = 16_000_000;
@@ -36,20 +38,39 @@ impl Rewriter {
         }
     }
 
-    // The next module that is worked out already.
-    pub(crate) fn tell(&mut self) -> Option<Module>
-        ensures { Tells self.old result self.new }
+    // Reads modules from below into the window, or how the word below ends.
+    pub(crate) fn read<S: Source>(&mut self, below: &mut S) -> Beyond
+        requires room { length (in_window self.old.window) < 65 }
+        requires meets { self.old.window.last.brackets ≡ (S.Source.means below.old).opened }
+        ensures { ReadsBeyond self.old (S.Source.means below.old) result self.new (S.Source.means below.new) }
+    {
+        self.window.refill(below)
+    }
+
+    // The next modules that are worked out already, written to the first of some places, as many as there are places for: how many.
+    #[inline(always)]
+    pub(crate) fn tell(&mut self, places: &mut [Module]) -> usize
+        ensures { TellsSome self.old places.old result places.new self.new }
     {
         if self.told >= self.growth.len() {
-            return None;
+            return 0;
         }
-        let symbol = self.growth.as_slice()[self.told];
-        self.told += 1;
-        self.opened = self.opened.after(symbol).unwrap();
-        Some(symbol)
+        let left = &self.growth.as_slice()[self.told..];
+        let count = left.len().min(places.len());
+        let next = &left[..count];
+        places[..count].copy_from_slice(next);
+        let opened = if count == left.len() {
+            self.window.first()
+        } else {
+            self.opened.after_all(next).unwrap()
+        };
+        self.told += count;
+        self.opened = opened;
+        count
     }
 
     // Passes over the module in hand; its outcome, which is worked out, is told next.
+    #[inline(always)]
     pub(crate) fn pass(&mut self, symbol: Module)
         requires first { symbol ≡ slice_index_or (in_window self.old.window) 0 symbol }
         requires some { 0 < length (in_window self.old.window) }
