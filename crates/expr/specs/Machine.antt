@@ -4,16 +4,16 @@ use Rattle.rows.specs.Rows.{held as filled}
 use Rattle.expr.specs.declared.code.Code.{Code}
 use Rattle.expr.specs.declared.code.Code.TheVariants.{Blank, Number, Name, Negate, Add, Subtract, Multiply, Divide, Compare}
 use Rattle.expr.specs.declared.computed.Cause.{Cause}
-use Rattle.expr.specs.declared.stack.Stack.{Stack}
+use Rattle.expr.specs.declared.values.Values.{Values}
 use Rattle.expr.specs.Values.{Value, is, Env, ranged, divided, both, negated, judged, Verdict, passes}
 use Rattle.expr.specs.Codes.{top, below}
 use Rattle.expr.specs.Records.{value_of}
 
--- the values on a stack, the latest first
-abbrev pub held : Stack → List Value
+-- the values held, the latest first
+abbrev pub held : Values → List Value
 held s = map value_of (reverse (filled s.values))
 
--- a stack takes 200 values
+-- at most 200 values are held
 abbrev pub pushed : Value → List Value → List Value
 pushed v vs = cond (nat_lt (length vs) 200) (v ∷ vs) vs
 

@@ -1,8 +1,9 @@
 -- What the records of the code mean.
-use Rattle.std.specs.Prelude.{◌≡◌, ℕ, ◌-◌, ◌<◌, Bool, true, false, cond, ◌&&◌, [], ◌∷◌, take, ℤ, pos, Ok, Err, Result, nat_le, slice_index_or}
+use Rattle.std.specs.Prelude.{◌≡◌, ℕ, zero, suc, ◌-◌, ◌<◌, Bool, true, false, cond, ◌&&◌, List, [], ◌∷◌, take, ℤ, pos, Ok, Err, Result, nat_le, slice_index_or}
 use Rattle.expr.specs.declared.computed.Cause.{Cause}
 use Rattle.expr.specs.declared.computed.Cause.TheVariants.{DividedByZero, OutOfRange}
 use Rattle.expr.specs.declared.names.Names.{Names}
+use Rattle.expr.specs.declared.stack.Stack.{Stack}
 use Rattle.expr.specs.Values.{Value, is, wrong, Env, Verdict, passes, fails, faults, Arguments, made, spoilt}
 
 abbrev pub cause_number : Cause → ℕ
@@ -35,3 +36,12 @@ arguments_of count (Err c) = spoilt (cause_number c)
 abbrev pub Spare : ℕ → Result (ℤ × ℤ × ℤ) Cause → Type 0
 Spare count (Ok t) = (count < 1 → t.0 ≡ pos 0) × (count < 2 → t.1 ≡ pos 0) × (count < 3 → t.2 ≡ pos 0)
 Spare count (Err c) = Unit {0}
+
+-- so many numbers, the latest first; of those below the first, the n-th from the bottom stands at place n
+abbrev pub numbers : ℤ → List ℤ → ℕ → List ℤ
+numbers last below zero = []
+numbers last below (suc n) = last ∷ numbers (slice_index_or below n (pos 0)) below n
+
+-- the numbers on a stack, the latest first
+abbrev pub on_stack : Stack → List ℤ
+on_stack s = numbers s.last s.below s.len

@@ -24,6 +24,7 @@ impl Cause {
 }
 
 // A number that lies in the range, or a fault.
+#[inline(always)]
 pub fn ranged(n: i64) -> Result<i32, Cause>
     ensures { value_of result ≡ ranged n }
 {
@@ -33,6 +34,7 @@ pub fn ranged(n: i64) -> Result<i32, Cause>
     }
 }
 
+#[inline(always)]
 pub fn negated(x: Result<i32, Cause>) -> Result<i32, Cause>
     ensures { value_of result ≡ negated (value_of x) }
 {
@@ -40,6 +42,7 @@ pub fn negated(x: Result<i32, Cause>) -> Result<i32, Cause>
 }
 
 // A quotient, rounded toward zero.
+#[inline(always)]
 fn divided(x: i32, y: i32) -> Result<i32, Cause>
     ensures { value_of result ≡ divided x y }
 {
@@ -50,6 +53,7 @@ fn divided(x: i32, y: i32) -> Result<i32, Cause>
 }
 
 // Two operands and the sign between them; a place of code that is no such sign keeps the first.
+#[inline(always)]
 pub fn joined(sign: Code, x: Result<i32, Cause>, y: Result<i32, Cause>) -> Result<i32, Cause>
     ensures { value_of result ≡ binary sign (value_of x) (value_of y) }
 {
@@ -63,7 +67,8 @@ pub fn joined(sign: Code, x: Result<i32, Cause>, y: Result<i32, Cause>) -> Resul
 }
 
 // Whether two numbers are in a relation.
-fn compared(relation: Relation, x: i32, y: i32) -> bool
+#[inline(always)]
+pub fn compared(relation: Relation, x: i32, y: i32) -> bool
     ensures { result ≡ compared relation x y }
 {
     match relation {
@@ -77,6 +82,7 @@ fn compared(relation: Relation, x: i32, y: i32) -> bool
 }
 
 // What a comparison of two values comes to.
+#[inline(always)]
 pub fn judge(
     relation: Relation,
     x: Result<i32, Cause>,

@@ -6,7 +6,8 @@ ghost use Rattle.expr.specs.Examples.{Examples, ReadsBack};
 pub mod code;
 pub mod computed;
 pub mod names;
-mod stack;
+pub mod stack;
+mod values;
 
 /// The worked examples stand.
 pub fn examples_stand()

@@ -1,6 +1,8 @@
 // What names stand for.
 ghost use Rattle.std.specs.Prelude.{◌≡◌, length};
 
+pub mod quick;
+pub mod slow;
 pub mod table;
 pub mod work;
 

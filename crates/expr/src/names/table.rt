@@ -12,6 +12,7 @@ impl Names {
     }
 
     /// A name stands for a value from now on. What is no name, a–z, changes nothing.
+    #[inline(always)]
     pub fn bind(&mut self, name: u8, value: i32)
         ensures { (x : ℕ) → env_of self.new x ≡ (if is_name name && x == name then value else env_of self.old x) }
     {
@@ -21,6 +22,7 @@ impl Names {
     }
 
     /// What a name stands for.
+    #[inline(always)]
     pub fn value(&self, name: u8) -> i32
         ensures { result ≡ env_of self.now name }
     {

@@ -1,34 +1,43 @@
-ghost use Rattle.std.specs.Prelude.{◌≡◌, [], pos};
-ghost use Rattle.expr.specs.Values.{is};
-ghost use Rattle.expr.specs.Codes.{top, below};
-ghost use Rattle.expr.specs.Records.{value_of};
-ghost use Rattle.expr.specs.Machine.{held, pushed};
+ghost use Rattle.std.specs.Prelude.{◌≡◌, []};
+ghost use Rattle.expr.specs.Records.{on_stack};
+ghost use Rattle.expr.specs.Quick.{latest_three};
 
-use super::super::computed::Cause;
 use super::Stack;
-use rows::row::Row;
 
 impl Stack {
+    /// No number.
     pub fn new() -> Stack
-        ensures { held result ≡ [] }
+        ensures { on_stack result ≡ [] }
     {
         Stack {
-            values: Row::new(Ok(0)),
+            last: 0,
+            below: [0; 200],
+            len: 0,
         }
     }
 
-    // One value more, unless the stack is full.
-    pub fn push(&mut self, value: Result<i32, Cause>)
-        ensures { held self.new ≡ pushed (value_of value) (held self.old) }
+    /// Takes all numbers off.
+    #[inline(always)]
+    pub fn clear(&mut self)
+        ensures { on_stack self.new ≡ [] }
     {
-        self.values.push(value);
+        self.len = 0;
     }
 
-    // The latest value, which is gone then; 0 where there is none.
-    pub fn pop(&mut self) -> Result<i32, Cause>
-        ensures value { value_of result ≡ top (is (pos 0)) (held self.old) }
-        ensures rest { held self.new ≡ below (held self.old) }
+    // The latest numbers, up to 3 of them, in the order in which they were put there, and 0 for what does not count. None where there
+    // are fewer.
+    #[inline(always)]
+    pub(crate) fn latest(&self, count: u8) -> Option<(i32, i32, i32)>
+        ensures { result ≡ latest_three count (on_stack self.now) }
     {
-        self.values.pop().unwrap_or(Ok(0))
+        let len = self.len;
+        match count {
+            0 => Some((0, 0, 0)),
+            1 if len >= 1 => Some((self.last, 0, 0)),
+            2 if len >= 2 => Some((self.below[len - 1], self.last, 0)),
+            1 | 2 => None,
+            _ if len >= 3 => Some((self.below[len - 2], self.below[len - 1], self.last)),
+            _ => None,
+        }
     }
 }

@@ -1,23 +1,19 @@
-use Rattle.std.proofs.Common.{[], take, arith}
-use Rattle.expr.specs.Codes.{decoded}
+use Rattle.std.proofs.Common.{◌≡◌, true, take, Some, sym, ap, ◌∙◌, rules}
 use Rattle.expr.specs.Records.{env_of}
-use Rattle.expr.proofs.Gathering.{gives_1, gives_2, gives_3}
+use Rattle.expr.specs.Quick.{latest_three}
+use Rattle.expr.proofs.Quick.{arguments_found}
 use Rattle.expr.proofs.names.Names.arguments.Goals as goal
 
-pub returns-in-1 : goal.returns-in-1
-returns-in-1 c =
-    let g = env_of c.args.self.now in
-    let p = gives_1 g (decoded [] (take 200 c.args.code.now)) _ c.work-stack.ensures c.args.count (omega arith) _ c.pop-a.ensures.value _ c.gathered-in-1.ensures in
-    record { values = p.0; spare = p.1 }
+pub returns-in-Some-true-Some-clause-values : goal.returns-in-Some-true-Some-clause-values
+returns-in-Some-true-Some-clause-values c =
+    let whole : c.quick-answer.result ≡ Some true = search rules in
+    (arguments_found (env_of c.args.self.now) (take 200 c.args.code.now) c.args.count c.in-Some-true-Some.numbers
+    (sym whole ∙ c.quick-answer.ensures.answer)
+    (sym c.in-Some-true-Some.is-1 ∙ c.latest-numbers.ensures ∙ ap (latest_three c.args.count) c.quick-answer.ensures.left)).0
 
-pub returns-in-2 : goal.returns-in-2
-returns-in-2 c =
-    let g = env_of c.args.self.now in
-    let p = gives_2 g (decoded [] (take 200 c.args.code.now)) _ _ c.work-stack.ensures c.pop-b.ensures.rest c.args.count (omega arith) _ _ c.pop-b.ensures.value c.pop-a-in-2.ensures.value _ c.gathered-in-2.ensures in
-    record { values = p.0; spare = p.1 }
-
-pub returns-in_default : goal.returns-in_default
-returns-in_default c =
-    let g = env_of c.args.self.now in
-    let p = gives_3 g (decoded [] (take 200 c.args.code.now)) _ _ _ c.work-stack.ensures c.pop-c.ensures.rest c.pop-b-in_default.ensures.rest c.args.count (omega arith) _ _ _ c.pop-c.ensures.value c.pop-b-in_default.ensures.value c.pop-a-in_default.ensures.value _ c.gathered-in_default.ensures in
-    record { values = p.0; spare = p.1 }
+pub returns-in-Some-true-Some-clause-spare : goal.returns-in-Some-true-Some-clause-spare
+returns-in-Some-true-Some-clause-spare c =
+    let whole : c.quick-answer.result ≡ Some true = search rules in
+    (arguments_found (env_of c.args.self.now) (take 200 c.args.code.now) c.args.count c.in-Some-true-Some.numbers
+    (sym whole ∙ c.quick-answer.ensures.answer)
+    (sym c.in-Some-true-Some.is-1 ∙ c.latest-numbers.ensures ∙ ap (latest_three c.args.count) c.quick-answer.ensures.left)).1

@@ -8,7 +8,7 @@ pub loop-place-init : goal.loop-place-init
 loop-place-init c =
     let g = env_of c.args.self.now in
     let it = c.into_iter-place-iterator.result in
-    let start : work g (held c.new-stack.result) (take it.n it.iter.rest.now) ≡ work g [] (take 200 c.args.code.now) = search rules in
+    let start : work g (held c.new-values.result) (take it.n it.iter.rest.now) ≡ work g [] (take 200 c.args.code.now) = search rules in
     start ∙ work_first g c.args.code.now
 
 pub loop-place-preserved : goal.loop-place-preserved

@@ -8,4 +8,4 @@ use Rattle.expr.proofs.names.Names.work.Given as goal
 
 abbrev pub invariant-loop-place : goal.invariant-loop-place
 invariant-loop-place l =
-    work (env_of l.self) (held l.stack) (take l.place-iterator.n l.place-iterator.iter.rest.now) ≡ map (value (env_of l.self)) (decoded [] (take 200 l.code))
+    work (env_of l.self) (held l.values) (take l.place-iterator.n l.place-iterator.iter.rest.now) ≡ map (value (env_of l.self)) (decoded [] (take 200 l.code))

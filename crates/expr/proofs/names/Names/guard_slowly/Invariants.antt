@@ -4,8 +4,8 @@ use Rattle.expr.specs.Codes.{comparisons}
 use Rattle.expr.specs.Records.{env_of}
 use Rattle.expr.specs.Machine.{held}
 use Rattle.expr.proofs.Working.{verdict}
-use Rattle.expr.proofs.names.Names.guard.Given as goal
+use Rattle.expr.proofs.names.Names.guard_slowly.Given as goal
 
 abbrev pub invariant-loop-place : goal.invariant-loop-place
 invariant-loop-place l =
-    verdict (env_of l.self) (held l.stack) (take l.place-iterator.n l.place-iterator.iter.rest.now) ≡ guard (env_of l.self) (comparisons [] (take 200 l.code))
+    verdict (env_of l.self) (held l.values) (take l.place-iterator.n l.place-iterator.iter.rest.now) ≡ guard (env_of l.self) (comparisons [] (take 200 l.code))
