@@ -1,3 +1,4 @@
+pub mod Binding
 pub mod Ordering
 pub mod Loading
 pub mod Winning

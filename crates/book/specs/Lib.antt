@@ -8,3 +8,4 @@ pub mod Winners
 pub mod Label
 pub mod OneMeaning
 pub mod Examples
+pub mod Binding
