@@ -1,10 +1,12 @@
 -- A rule tried and grown.
-use Rattle.std.proofs.Common.{◌≡◌, ℕ, zero, suc, ◌-◌, ◌<◌, ◌≤◌, min, true, false, ◌&&◌, ltb, List, [], ◌∷◌, length, take, drop, ℤ, pos, Option, Result, sym, ap, ◌∙◌, arith, length-take, length-drop, w32, to_z, of_z}
+use Rattle.std.proofs.Common.{◌≡◌, ℕ, zero, suc, ◌-◌, ◌<◌, ◌≤◌, min, true, false, ◌&&◌, ltb, List, [], ◌∷◌, ◌++◌, map, length, take, drop, ℤ, pos, Ok, Option, Result, sym, refl, ap, ◌∙◌, arith, length-take, length-drop, append_assoc, w32, to_z, of_z}
 use mathlib.Core.Path.{fun_ext}
 use native.Mathlib.Nat.{sub-zero}
-use Rattle.std.proofs.lemmas.List.{take_all}
+use Rattle.std.proofs.lemmas.List.{take_all, map-append}
 use Rattle.std.proofs.lemmas.Bool.{and_parts, and_from}
 use Rattle.std.proofs.lemmas.Bool.Decides.{nat_tests}
+use Rattle.word.specs.declared.module.Module.{Module}
+use Rattle.word.specs.Records.{symbol_of}
 use Rattle.word.specs.Symbols.{Symbol, may_have, in_range, all_in_range, fits, sound}
 use Rattle.word.proofs.Sound.{exact}
 use Rattle.expr.specs.declared.code.Code.{Code}
@@ -13,7 +15,11 @@ use Rattle.expr.specs.Values.{Expr, Env, made, arguments}
 use Rattle.expr.specs.Codes.{decoded, latest}
 use Rattle.expr.specs.Records.{arguments_of}
 use Rattle.expr.proofs.Ranges.{arguments_in_range}
+use Rattle.rules.specs.declared.piece.Piece.{Piece}
+use Rattle.rules.specs.Records.{pieces_from}
 use Rattle.book.specs.Rules.{Form, given, given_beside}
+use Rattle.books.specs.Outcomes.{Outcome, itself, grown, fault, with_first, successor}
+use Rattle.books.specs.Trying.{Grows, behind}
 
 pub first_part : (n : ℕ) (code : List Code) → n ≤ 200 → take 200 (take (n - 0) code) ≡ take n code
 first_part n code h = take_all 200 (take (n - 0) code) (omega (arith, length-take (n - 0) code, sub-zero n)) ∙ ap (λ k. take k code) (sub-zero n)
@@ -64,3 +70,19 @@ all_worked g n code r low short e =
     let m : min n 3 ≡ n = omega arith in
     let t = take_all 200 code short in
     sym (ap (λ k. arguments_of k r) m) ∙ e ∙ (λ i. arguments g (latest (m i) (decoded [] (t i))))
+
+-- a module more behind some that are grown
+behind_one : (w : List Symbol) (s : Symbol) (o : Outcome) → behind (w ++ (s ∷ [])) o ≡ behind w (with_first s.letter (made s.params) o)
+behind_one w s itself = refl
+behind_one w s (grown v) = ap grown (append_assoc w (s ∷ []) v)
+behind_one w s (fault n) = refl
+
+-- what a piece without code grows to, behind those before it
+pub plain_more : (g : Env) (cs : List Code) (p : Piece) (m : Module) (w : List Module) (ps : List Piece) (o : Outcome) → p.places ≡ 0 → Grows g p [] (Ok m) → behind (map symbol_of w) (successor g (pieces_from (p ∷ ps) cs)) ≡ o → behind (map symbol_of (w ++ (m ∷ []))) (successor g (pieces_from ps cs)) ≡ o
+plain_more g cs p m w ps o z grows e =
+    let q = successor g (pieces_from ps cs) in
+    let first : behind (map symbol_of w) (with_first p.letter (arguments g (latest p.count (decoded [] []))) q) ≡ o = sym (λ i. behind (map symbol_of w) (with_first p.letter (arguments g (latest p.count (decoded [] (take (z i) cs)))) (successor g (pieces_from ps (drop (z i) cs))))) ∙ e in
+    ap (λ (l : List Symbol). behind l q) (map-append symbol_of w (m ∷ []))
+    ∙ behind_one (map symbol_of w) (symbol_of m) q
+    ∙ (λ i. behind (map symbol_of w) (with_first (grows.1 i) (sym grows.0 i) q))
+    ∙ first

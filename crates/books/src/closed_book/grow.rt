@@ -1,6 +1,7 @@
-ghost use Rattle.std.specs.Prelude.{◌≡◌};
+ghost use Rattle.std.specs.Prelude.{◌≡◌, []};
 ghost use Rattle.std.specs.Option.{option_map};
 ghost use Rattle.word.specs.Records.{symbol_of};
+ghost use Rattle.expr.specs.Records.{on_stack};
 ghost use Rattle.books.specs.Ahead.{looks_ahead};
 ghost use Rattle.books.specs.Outcomes.{becomes};
 ghost use Rattle.books.specs.Label.{Label};
@@ -19,6 +20,7 @@ use super::super::rules_for::RulesFor;
 use super::super::site::Site;
 use super::ClosedBook;
 use expr::computed::Cause;
+use expr::stack::Stack;
 use word::module::Module;
 
 // An open and a closed book are two types by a rule of the project: which letters are ignored is handed on from the contents.
@@ -41,13 +43,15 @@ impl ClosedBook {
     /// Writes what becomes of a module between its neighbours: the modules of a successor, or the module itself where it stays
     /// as it is; answers how deep a successor nests. Or nothing is written, and a fault ends the word. Of the rules that fit, the one
     /// with more neighbours grows; then left before right; then the lower number.
-    pub fn becomes(&self, site: Site, grown: &mut Modules) -> Result<u8, Cause>
+    pub fn becomes(&self, site: Site, grown: &mut Modules, stack: &mut Stack) -> Result<u8, Cause>
         ensures value { Became (symbol_of site.module) (becomes (option_map symbol_of site.left) (symbol_of site.module) (option_map symbol_of site.right) (closed_book self.now).rules) result (symbols_in grown.new) }
         ensures label { Label (closed_book self.now).rules (option_map symbol_of site.left) (symbol_of site.module) (option_map symbol_of site.right) }
+        ensures emptied { on_stack stack.new ≡ [] }
     {
         grown.clear();
+        stack.clear();
         for rule in self.rules_for(site.module.letter) {
-            match rule.try_at(self.contents.code(), site, grown) {
+            match rule.try_at(self.contents.code(), site, grown, stack) {
                 Ok(None) => {}
                 Ok(Some(depth)) => return Ok(depth),
                 Err(cause) => {

@@ -14,6 +14,7 @@ use word::module::Module;
 
 impl Rule {
     // The letter that the rule is for.
+    #[inline(always)]
     pub(crate) fn letter(&self) -> u8
         ensures { result ≡ letter_of self.now }
     {
@@ -21,6 +22,7 @@ impl Rule {
     }
 
     // Whether the forms agree with a module and its neighbours.
+    #[inline(always)]
     pub(crate) fn fits(&self, site: Site) -> bool
         ensures { result ≡ head_fits (option_map symbol_of site.left) (symbol_of site.module) (option_map symbol_of site.right) self.now.head }
     {
@@ -30,6 +32,7 @@ impl Rule {
     }
 
     // What the names of the forms stand for.
+    #[inline(always)]
     pub(crate) fn names(&self, site: Site) -> Names
         ensures { (x : ℕ) → env_of result x ≡ head_names (option_map symbol_of site.left) (symbol_of site.module) (option_map symbol_of site.right) self.now.head x }
     {

@@ -33,6 +33,7 @@ loop-rule-init c =
     let own = ap to_come c.into_iter-rule-iterator.ensures.into_iter_gives ∙ c.rules_for-rule-items.ensures in
     record {
       empty = c.clear.ensures;
+      lent = c.clear-2.ensures;
       inside = ap (within (length cs)) own ∙ some_within (length cs) m.letter rs s.inside;
       same =
           ap (λ (qs : List StoredRule). becomes (option_map symbol_of c.args.site.left) m (option_map symbol_of c.args.site.right) (rules_in cs qs)) own
@@ -58,10 +59,11 @@ loop-rule-preserved c =
     let q = c.in-Some.rule.now in
     let inv = c.loop-rule.invariant in
     let steps : to_come c.loop-rule.rule-iterator ≡ q ∷ rest = search rules in
-    let by_code = subst (λ (k : CodePlaces). Tried l m r (rule_in (code_held k) q) c.try_at.result (symbols_in c.try_at.new.grown)) c.code.ensures c.try_at.ensures in
+    let by_code = subst (λ (k : CodePlaces). Tried l m r (rule_in (code_held k) q) c.try_at.result (symbols_in c.try_at.new.grown)) c.code.ensures c.try_at.ensures.tried in
     let tried = subst (λ (x : Result (Option ℕ) Cause). Tried l m r (rule_in cs q) x (symbols_in c.try_at.new.grown)) (c.in-Ok-None.is ∙ ap Ok c.in-Ok-None.field-0-is) by_code in
     record {
       empty = none_of (modules_in c.try_at.new.grown) tried.1;
+      lent = c.try_at.ensures.emptied;
       inside = (and_parts _ _ (sym (ap (within (length cs)) steps) ∙ inv.inside)).1;
       same =
           sym (ap (λ b. by_rule l m r (cond b (Some (rule_in cs q)) (winner l m r (rules_in cs rest)))) tried.0)

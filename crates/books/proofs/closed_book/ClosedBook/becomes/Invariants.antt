@@ -1,6 +1,7 @@
 use Rattle.std.proofs.Common.{◌≡◌, true, [], length}
 use Rattle.std.specs.Option.{option_map}
 use Rattle.word.specs.Records.{symbol_of}
+use Rattle.expr.specs.Records.{on_stack}
 use Rattle.books.specs.Few.{modules_in}
 use Rattle.books.specs.Kept.{within}
 use Rattle.books.specs.Outcomes.{becomes}
@@ -12,6 +13,7 @@ use Rattle.books.proofs.closed_book.ClosedBook.becomes.Given as goal
 abbrev pub invariant-loop-rule : goal.invariant-loop-rule
 invariant-loop-rule l = record {
   empty : modules_in l.grown ≡ [];
+  lent : on_stack l.stack ≡ [];
   inside : within (length (code_held l.self.contents.code)) (to_come l.rule-iterator) ≡ true;
   same :
       becomes (option_map symbol_of l.site.left) (symbol_of l.site.module) (option_map symbol_of l.site.right) (rules_in (code_held l.self.contents.code) (to_come l.rule-iterator))

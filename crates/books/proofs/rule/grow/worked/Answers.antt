@@ -6,6 +6,7 @@ pub returns : goal.returns
 returns c =
     let p = c.args.piece.now in
     record {
-      values = all_worked (env_of c.args.names.now) p.count c.args.code.now c.arguments.result (few p.letter p.count p.ok) c.requires c.arguments.ensures.values;
+      values = all_worked (env_of c.args.names.now) p.count c.args.code.now c.arguments.result (few p.letter p.count p.ok) c.requires.few c.arguments.ensures.values;
       spare = c.arguments.ensures.spare;
+      emptied = c.arguments.ensures.emptied;
     }
