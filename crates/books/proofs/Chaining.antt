@@ -1,5 +1,5 @@
 -- Rules of one letter, one after the other.
-use Rattle.std.proofs.Common.{◌≡◌, ℕ, ◌+◌, ◌<◌, ◌≤◌, Bool, true, false, cond, not, ◌&&◌, ◌||◌, eqb, ltb, leb, List, [], ◌∷◌, length, get_or, set, drop, is_some, Some, Option, sym, refl, ap, ◌∙◌, subst, arith, one-add, eq-eqb, get_or-set_same, get_or-set_other}
+use Rattle.std.proofs.Common.{◌≡◌, ℕ, ◌+◌, ◌<◌, ◌≤◌, Bool, true, false, cond, not, ◌&&◌, eqb, ltb, leb, List, [], ◌∷◌, length, get_or, set, drop, Some, Option, sym, refl, ap, ◌∙◌, subst, arith, one-add, eq-eqb, get_or-set_same, get_or-set_other}
 use borrow.Author.Tests.{eqb-true, eqb-false, ne_eqb, ltb-true, ltb-false}
 use Rattle.std.proofs.lemmas.Bool.{and_parts, and_from}
 use Rattle.std.specs.List.{position_or_len}
@@ -9,7 +9,6 @@ use Rattle.word.specs.Symbols.{Symbol}
 use Rattle.expr.specs.declared.code.Code.{Code}
 use Rattle.book.specs.Rules.{Rule, agrees, beside}
 use Rattle.book.specs.Winners.{not_false, says, decides, winner}
-use Rattle.books.specs.Ahead.{looks_right, looks_ahead}
 use Rattle.books.specs.Outcomes.{by_rule, becomes}
 use Rattle.books.specs.Kept.{within}
 use Rattle.books.specs.Stored.{rule_in, rules_in}
@@ -114,14 +113,6 @@ some_within n c (r ∷ rs) h =
 module _ (cs : List Code) (s : Symbol) where
   disagrees : (q : StoredRule) → eqb (letter_of q) s.letter ≡ false → agrees (rule_in cs q).predecessor s ≡ false
   disagrees q e = ap (λ (t : Bool). t && eqb (length (rule_in cs q).predecessor.names) (length s.params)) e
-
-  pub only_ahead : (rs : List StoredRule) → looks_ahead s (rules_in cs (with_letter s.letter rs)) ≡ looks_ahead s (rules_in cs rs)
-  only_ahead [] = refl
-  only_ahead (q ∷ qs) = go (eqb (letter_of q) s.letter) refl (only_ahead qs)
-    where
-      go : (t : Bool) → eqb (letter_of q) s.letter ≡ t → looks_ahead s (rules_in cs (with_letter s.letter qs)) ≡ looks_ahead s (rules_in cs qs) → looks_ahead s (rules_in cs (cond t (q ∷ with_letter s.letter qs) (with_letter s.letter qs))) ≡ looks_ahead s (rules_in cs (q ∷ qs))
-      go true e ih = ap (λ (t : Bool). looks_right s (rule_in cs q) || t) ih
-      go false e ih = ih ∙ sym (ap (λ (t : Bool). (t && is_some (rule_in cs q).behind) || looks_ahead s (rules_in cs qs)) (disagrees q e))
 
   module _ (l r : Option Symbol) where
     only_winner : (rs : List StoredRule) → winner l s r (rules_in cs (with_letter s.letter rs)) ≡ winner l s r (rules_in cs rs)

@@ -4,6 +4,7 @@ pub mod Placing
 pub mod Loading
 pub mod Winning
 pub mod Chaining
+pub mod Ahead
 pub mod Growing
 pub mod Trying
 pub mod Tidy

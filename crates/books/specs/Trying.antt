@@ -1,5 +1,5 @@
 -- A rule tried by its head. Internal.
-use Rattle.std.specs.Prelude.{◌≡◌, ℕ, Bool, true, false, ◌&&◌, List, [], ◌++◌, pos, is_some, Some, None, Ok, Err, Option, Result}
+use Rattle.std.specs.Prelude.{◌≡◌, ℕ, Bool, true, false, ◌&&◌, List, [], ◌++◌, pos, Some, None, Ok, Err, Option, Result}
 use Rattle.std.specs.Option.{option_map}
 use Rattle.word.specs.declared.module.Module.{Module}
 use Rattle.word.specs.Symbols.{Symbol}
@@ -22,9 +22,6 @@ head_fits l s r h = agrees (form_of h.predecessor) s && (beside (option_map form
 
 abbrev pub head_names : Option Symbol → Symbol → Option Symbol → Head → Env
 head_names l s r h = given_beside (option_map form_of h.before) l (given (form_of h.predecessor).names s.params (given_beside (option_map form_of h.behind) r (λ x. pos 0)))
-
-abbrev pub head_looks_right : Symbol → Head → Bool
-head_looks_right s h = agrees (form_of h.predecessor) s && is_some (option_map form_of h.behind)
 
 -- some modules, then an outcome
 abbrev pub behind : List Symbol → Outcome → Outcome

@@ -1,6 +1,6 @@
 // A book that grows.
 ghost use Rattle.books.specs.Stored.{listed};
-ghost use Rattle.books.specs.Index.{letters, Firsts, Nexts};
+ghost use Rattle.books.specs.Index.{letters, Firsts, Nexts, Aheads};
 
 use super::contents::Contents;
 use super::letter_index::LetterIndex;
@@ -14,4 +14,5 @@ pub struct ClosedBook {
     index: LetterIndex,
     ghost firsts: { Firsts (letters (listed contents.rules)) index },
     ghost nexts: { Nexts (letters (listed contents.rules)) index },
+    ghost aheads: { Aheads (listed contents.rules) index },
 }

@@ -68,8 +68,7 @@ impl ClosedBook {
     pub fn looks_ahead(&self, symbol: Module) -> bool
         ensures { result ≡ looks_ahead (symbol_of symbol) (closed_book self.now).rules }
     {
-        self.rules_for(symbol.letter)
-            .any(|rule| rule.looks_right(symbol))
+        self.index.looks_ahead(symbol)
     }
 
     /// Whether a letter is ignored where neighbours are looked for.

@@ -202,7 +202,8 @@ impl Rule {
         if self.size == 0 {
             return Ok(Some(self.grow_plainly(grown)));
         }
-        let names = self.names(site);
+        let mut names = Names::new();
+        self.give(site, &mut names);
         let code = book.part(self.start, self.size);
         if !self.says(code, &names, stack)? {
             return Ok(None);

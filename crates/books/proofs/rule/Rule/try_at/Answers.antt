@@ -17,17 +17,17 @@ use Rattle.books.proofs.rule.Rule.try_at.Goals as goal
 pub returns-in_err-says-clause-tried : goal.returns-in_err-says-clause-tried
 returns-in_err-says-clause-tried c =
     let r = c.args.self.now in
-    let g = env_of c.names-names.result in
+    let g = env_of c.give.new.names in
     let p = err_from_is_err_and c.from_residual.result c.from_residual.ensures.1 in
     rw (p.1, p.2)
-    (on_fault (option_map symbol_of c.args.site.left) (symbol_of c.args.site.module) (option_map symbol_of c.args.site.right) (rule_in (code_held c.args.book.now) r) g c.names-names.ensures (sym c.fits.ensures ∙ c.if-not-fits.false) _
+    (on_fault (option_map symbol_of c.args.site.left) (symbol_of c.args.site.module) (option_map symbol_of c.args.site.right) (rule_in (code_held c.args.book.now) r) g c.give.ensures (sym c.fits.ensures ∙ c.if-not-fits.false) _
     (c.in_err-says.ensures.said ∙ ap (λ (cs : List Code). guard g (comparisons [] (take r.guard cs))) c.part-code.ensures))
 
 pub returns-then-not-branch-clause-tried : goal.returns-then-not-branch-clause-tried
 returns-then-not-branch-clause-tried c =
     let r = c.args.self.now in
-    let g = env_of c.names-names.result in (
-      on_fail (option_map symbol_of c.args.site.left) (symbol_of c.args.site.module) (option_map symbol_of c.args.site.right) (rule_in (code_held c.args.book.now) r) g c.names-names.ensures (sym c.fits.ensures ∙ c.if-not-fits.false)
+    let g = env_of c.give.new.names in (
+      on_fail (option_map symbol_of c.args.site.left) (symbol_of c.args.site.module) (option_map symbol_of c.args.site.right) (rule_in (code_held c.args.book.now) r) g c.give.ensures (sym c.fits.ensures ∙ c.if-not-fits.false)
           (ap (λ b. verdict_of (Ok b)) (sym c.if-not-branch.true) ∙ c.in_ok-says.ensures.said ∙ ap (λ (cs : List Code). guard g (comparisons [] (take r.guard cs))) c.part-code.ensures),
       ap (map symbol_of) c.requires.empty,
     )
@@ -35,19 +35,19 @@ returns-then-not-branch-clause-tried c =
 pub returns-in_err-depth-clause-tried : goal.returns-in_err-depth-clause-tried
 returns-in_err-depth-clause-tried c =
     let r = c.args.self.now in
-    let g = env_of c.names-names.result in
+    let g = env_of c.give.new.names in
     let p = err_from_is_err_and c.from_residual-in_err-depth.result c.from_residual-in_err-depth.ensures.1 in
     rw (p.1, p.2)
-    (on_pass (option_map symbol_of c.args.site.left) (symbol_of c.args.site.module) (option_map symbol_of c.args.site.right) (rule_in (code_held c.args.book.now) r) g c.names-names.ensures (sym c.fits.ensures ∙ c.if-not-fits.false) _
+    (on_pass (option_map symbol_of c.args.site.left) (symbol_of c.args.site.module) (option_map symbol_of c.args.site.right) (rule_in (code_held c.args.book.now) r) g c.give.ensures (sym c.fits.ensures ∙ c.if-not-fits.false) _
     (ap (λ b. verdict_of (Ok b)) (sym c.if-not-branch.false) ∙ c.in_ok-says.ensures.said ∙ ap (λ (cs : List Code). guard g (comparisons [] (take r.guard cs))) c.part-code.ensures)
     (c.in_err-depth.ensures.grown ∙ ap (λ (cs : List Code). successor g (pieces_from (held r.pieces) (drop r.guard cs))) c.part-code.ensures))
 
 pub returns-clause-tried : goal.returns-clause-tried
 returns-clause-tried c =
     let r = c.args.self.now in
-    let g = env_of c.names-names.result in
+    let g = env_of c.give.new.names in
     let passed =
-    on_pass (option_map symbol_of c.args.site.left) (symbol_of c.args.site.module) (option_map symbol_of c.args.site.right) (rule_in (code_held c.args.book.now) r) g c.names-names.ensures (sym c.fits.ensures ∙ c.if-not-fits.false) _
+    on_pass (option_map symbol_of c.args.site.left) (symbol_of c.args.site.module) (option_map symbol_of c.args.site.right) (rule_in (code_held c.args.book.now) r) g c.give.ensures (sym c.fits.ensures ∙ c.if-not-fits.false) _
     (ap (λ b. verdict_of (Ok b)) (sym c.if-not-branch.false) ∙ c.in_ok-says.ensures.said ∙ ap (λ (cs : List Code). guard g (comparisons [] (take r.guard cs))) c.part-code.ensures)
     (c.in_ok-depth.ensures.grown.0 ∙ ap (λ (cs : List Code). successor g (pieces_from (held r.pieces) (drop r.guard cs))) c.part-code.ensures) in
     (passed.0, passed.1, c.in_ok-depth.ensures.grown.1)
