@@ -17,6 +17,7 @@ pub enum Command {
 impl From<char> for Command {
     ghost from_gives = { λ letter command. command ≡ command_of letter };
 
+    #[inline(always)]
     fn from(letter: char) -> Command {
         match letter {
             'F' => Command::Draw,

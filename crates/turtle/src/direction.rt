@@ -10,15 +10,3 @@ pub enum Direction {
     PlusZ = 4,
     MinusZ = 5,
 }
-
-impl Direction {
-    // In the order of their numbers.
-    pub(crate) const ALL: [Direction; 6] = [
-        Direction::PlusX,
-        Direction::MinusX,
-        Direction::PlusY,
-        Direction::MinusY,
-        Direction::PlusZ,
-        Direction::MinusZ,
-    ];
-}

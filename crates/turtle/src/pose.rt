@@ -3,7 +3,7 @@ ghost use Rattle.std.specs.Prelude.{◌<◌};
 
 use super::place::Place;
 
-mod act;
+pub mod act;
 mod standing;
 mod turned;
 

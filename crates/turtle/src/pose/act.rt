@@ -16,14 +16,16 @@ use word::module::Module;
 // How far the turtle goes at once, at most.
 const LONGEST: i32 = 4095;
 
-// How far a module asks the turtle to go.
-fn asked(next: Module) -> i32
+/// How far a module asks the turtle to go: by its first parameter, or else by 1.
+#[inline(always)]
+pub fn asked(next: Module) -> i32
     ensures { result ≡ stride (symbol_of next).params }
 {
     if next.count == 0 { 1 } else { next.a }
 }
 
 // A function of its own: with the range in `ahead` the proof of that did not close.
+#[inline(always)]
 fn is_length(number: i32) -> bool
     ensures { result ≡ is_length number }
 {
@@ -32,14 +34,23 @@ fn is_length(number: i32) -> bool
 
 impl Pose {
     // The way ahead.
+    #[inline(always)]
     fn heading(self) -> Direction
         ensures { number_of result ≡ self.orientation / 4 }
     {
-        Direction::ALL[usize::from(self.orientation / 4)]
+        match self.orientation / 4 {
+            0 => Direction::PlusX,
+            1 => Direction::MinusX,
+            2 => Direction::PlusY,
+            3 => Direction::MinusY,
+            4 => Direction::PlusZ,
+            _ => Direction::MinusZ,
+        }
     }
 
-    // The pose at this length ahead, if the turtle may go there.
-    fn ahead(self, length: i32) -> Result<Pose, Limit>
+    /// The pose at this length ahead, if the turtle may go there.
+    #[inline(always)]
+    pub fn ahead(self, length: i32) -> Result<Pose, Limit>
         ensures step { step_of result ≡ done Move length (stance_of self) }
         ensures short { OnOk result (is_length length ≡ true) }
     {
@@ -49,7 +60,7 @@ impl Pose {
         if length == 0 {
             return Ok(self);
         }
-        let (x, y, z) = self.place.ahead(self.heading(), length);
+        let (x, y, z) = self.place.ahead(self.orientation / 4, length);
         // no `ok_or` with `?`: with it the proof of the refusal did not close
         let Some(place) = Place::new(x, y, z) else {
             return Err(Limit::OutOfBounds);
@@ -61,6 +72,7 @@ impl Pose {
     }
 
     // Goes ahead.
+    #[inline(always)]
     fn moved(self, length: i32) -> Result<Act, Limit>
         ensures { deed_of result ≡ done Move length (stance_of self) }
     {
@@ -68,6 +80,7 @@ impl Pose {
     }
 
     // The segment of this length ahead.
+    #[inline(always)]
     fn line(self, length: i32) -> Segment
         requires short { is_length length ≡ true }
         requires long { length ≢ pos 0 }
@@ -81,9 +94,10 @@ impl Pose {
         }
     }
 
-    // Goes ahead, and draws.
+    /// Goes ahead, and draws, where the length is not 0.
+    #[inline(always)]
     #[tactic(auto, using(crate::proofs::Steps::drawing))]
-    fn drawn(self, length: i32) -> Result<Act, Limit>
+    pub fn drawn(self, length: i32) -> Result<Act, Limit>
         ensures { deed_of result ≡ done Draw length (stance_of self) }
     {
         let pose = self.ahead(length)?;

@@ -19,7 +19,20 @@ impl Pose {
         }
     }
 
+    /// The same pose, copied number by number: one copy of the whole would wait for the numbers that were just written.
+    #[inline(always)]
+    pub fn copied(&self) -> Pose
+        ensures { stance_of result ≡ stance_of self.now }
+    {
+        let Place { x, y, z } = self.place;
+        Pose {
+            place: Place { x, y, z },
+            orientation: self.orientation,
+        }
+    }
+
     /// The place.
+    #[inline(always)]
     pub fn place(&self) -> Place
         ensures { point_of result ≡ (stance_of self.now).place }
     {

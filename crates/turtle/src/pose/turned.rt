@@ -36,6 +36,7 @@ const TURNS: [[u8; 7]; 24] = [
 ];
 
 // The orientation after a turn, by a table that agrees with the vector rule.
+#[inline(always)]
 fn after(table: &[[u8; 7]; 24], orientation: u8, turn: Turn) -> u8
     requires tested { table_agrees 0 table.now ≡ true }
     requires known { orientation < 24 }
@@ -55,5 +56,13 @@ impl Pose {
             place: self.place,
             orientation: after(&TURNS, self.orientation, turn),
         }
+    }
+
+    /// Turns in its place.
+    #[inline(always)]
+    pub fn turn(&mut self, turn: Turn)
+        ensures { Turned (stance_of self.old) turn (stance_of self.new) }
+    {
+        self.orientation = after(&TURNS, self.orientation, turn);
     }
 }
