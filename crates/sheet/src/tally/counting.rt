@@ -22,6 +22,7 @@ impl Tally {
     }
 
     /// How many segments were put.
+    #[inline(always)]
     pub fn count(&self) -> u32
         ensures { result ≡ self.now.count }
     {
@@ -43,6 +44,7 @@ impl Tally {
     }
 
     // Counts one more segment.
+    #[inline(always)]
     pub(crate) fn add(&mut self, segment: Segment)
         requires { self.old.count < 16_000_000 }
         ensures { Adds self.old (stroke_of segment) self.new }
@@ -58,6 +60,7 @@ impl Sheet for Tally {
 
     ghost few = { λ t. stays_few 16_000_000 t.count (lit≤ tt) t.few };
 
+    #[inline(always)]
     fn put(&mut self, segment: Segment) -> Result<(), NoSpace> {
         if self.space() == 0 {
             return Err(NoSpace);
@@ -66,6 +69,7 @@ impl Sheet for Tally {
         Ok(())
     }
 
+    #[inline(always)]
     fn space(&self) -> u32 {
         MOST - self.count
     }
