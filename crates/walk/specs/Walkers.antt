@@ -15,13 +15,13 @@ use Rattle.report.specs.declared.ending.Ending.{Ending}
 use Rattle.report.specs.Boxes.{box_of}
 use Rattle.report.specs.Report.{report_lines}
 use Rattle.walk.specs.Boxes.{around}
-use Rattle.walk.specs.Walks.{Turtle, back, moved, Drawn, one_drawn, boxed, Walk}
+use Rattle.walk.specs.Walks.{Turtle, there, back, moved, Drawn, one_drawn, boxed, Walk}
 
 abbrev pub turtle_of : Walker → Turtle
 turtle_of w = record { stance = stance_of w.pose; stored = reverse (map stance_of (held w.stored)) }
 
 abbrev pub drawn_of : Walker → Drawn
-drawn_of w = record { count = w.tally.count; length = w.tally.length; box = option_map box_of w.bounds }
+drawn_of w = record { count = w.segments; length = w.distance; box = option_map box_of w.bounds }
 
 abbrev pub walker : Walker → Walk
 walker w = record { turtle = turtle_of w; drawn = drawn_of w; deepest = w.deepest }
@@ -65,6 +65,14 @@ at ps p letter =
 abbrev pub branched : Walk → Stance → ℕ → Walk
 branched k p letter = let t = at k.turtle.stored p letter in record { turtle = t; drawn = k.drawn; deepest = max k.deepest (length t.stored) }
 
+-- Internal, by the parts of the code: a deed is done, and no stance is stored or taken back
+abbrev pub went : Walk → Deed → Walk
+went k d = record {
+  turtle = record { stance = there d k.turtle.stance; stored = k.turtle.stored };
+  drawn = with_drawn k.drawn d;
+  deepest = k.deepest;
+}
+
 -- what a sheet means behind a deed
 abbrev pub sheet_after : Content → Deed → Content
 sheet_after c (goes s) = c
@@ -88,6 +96,12 @@ abbrev pub Takes : Walk → Content → Symbol → Result (Unit {0}) Refusal →
 Takes k c m (Ok u) k' c' = Fits c (deed m k.turtle.stance) × (k' ≡ gone_on k m) × (c' ≡ sheet_after c (deed m k.turtle.stance))
 Takes k c m (Err (Limit l)) k' c' = (deed m k.turtle.stance ≡ breaks (cause_of l)) × (k' ≡ k) × (c' ≡ c)
 Takes k c m (Err NoSpace) k' c' = Drawing (deed m k.turtle.stance) × (c.space ≡ 0) × (k' ≡ k) × (c' ≡ c)
+
+-- Internal, by the parts of the code: the same, of the deed d of no bracket
+abbrev pub TakesBy : Walk → Content → Deed → Result (Unit {0}) Refusal → Walk → Content → Type 0
+TakesBy k c d (Ok u) k' c' = Fits c d × (k' ≡ went k d) × (c' ≡ sheet_after c d)
+TakesBy k c d (Err (Limit l)) k' c' = (d ≡ breaks (cause_of l)) × (k' ≡ k) × (c' ≡ c)
+TakesBy k c d (Err NoSpace) k' c' = Drawing d × (c.space ≡ 0) × (k' ≡ k) × (c' ≡ c)
 
 -- the report of a walk that took n modules and ends so
 abbrev pub walk_report : ℕ → Walk → Ending → List ℕ

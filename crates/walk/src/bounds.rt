@@ -8,12 +8,14 @@ ghost use Rattle.walk.specs.Boxes.{lesser, greater, around, least_with, greatest
 use report::bounds::Bounds;
 use turtle::place::Place;
 
+#[inline(always)]
 fn lesser(a: i32, b: i32) -> i32
     ensures { result ≡ lesser a b }
 {
     if a <= b { a } else { b }
 }
 
+#[inline(always)]
 fn greater(a: i32, b: i32) -> i32
     ensures { result ≡ greater a b }
 {
@@ -21,6 +23,7 @@ fn greater(a: i32, b: i32) -> i32
 }
 
 // The lesser coordinates of two places.
+#[inline(always)]
 fn least(a: Place, b: Place) -> Place
     ensures { point_of result ≡ least_with (point_of a) (point_of b) }
 {
@@ -32,6 +35,7 @@ fn least(a: Place, b: Place) -> Place
 }
 
 // The greater coordinates of two places.
+#[inline(always)]
 fn greatest(a: Place, b: Place) -> Place
     ensures { point_of result ≡ greatest_with (point_of a) (point_of b) }
 {
@@ -43,6 +47,7 @@ fn greatest(a: Place, b: Place) -> Place
 }
 
 // The box around a place, and around all that another box is around.
+#[inline(always)]
 pub(crate) fn around(bounds: Option<Bounds>, place: Place) -> Bounds
     ensures { box_of result ≡ around (option_map box_of bounds) (point_of place) }
 {
