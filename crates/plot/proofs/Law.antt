@@ -20,7 +20,8 @@ use Rattle.plot.specs.Runs.{wrote, refused, Event, stepped, stood, reported, Doe
 use Rattle.plot.specs.Piles.{Layer, grows, prunes, Loaded, layered, piled, Alike}
 use Rattle.plot.specs.Positions.{Call, to_step, to_stand, to_report, call, met, met_by, ended_by, written, walk_at, answered, taken_by, taken_in, all_taken, heard_by, heard_in, heard, put_in, all_put, seen, to_come, Asked, for_step, for_place, for_report, asked_by, asked, Given, a_step, a_place, a_report, given}
 use Rattle.plot.specs.Law.{Draws, After, Law}
-use Rattle.plot.proofs.Walking.{On, answers, one_goes, new_on, comes_first}
+use Rattle.plot.proofs.Coming.{comes_first}
+use Rattle.plot.proofs.Walking.{On, answers, one_goes, new_on}
 
 -- the front and the rest of a list
 front : {A : Type 0} (a b : List A) → take (length a) (a ++ b) ≡ a

@@ -15,16 +15,7 @@ use Rattle.walk.proofs.Onwards.{onwards, strokes_more}
 use Rattle.plot.specs.Views.{View, New, took, ended, faulted, no_space, Comes, Over, Holds}
 use Rattle.plot.specs.Runs.{Reply, wrote, refused, Event, stepped, stood, reported, Replies, Does}
 use Rattle.plot.specs.Positions.{Call, to_step, to_stand, to_report, call, ended_by, met_by, met, written, taken_in, heard_in, listed, put_in, seen, to_come}
-use Rattle.plot.proofs.Coming.{comes_number}
-
--- what comes next is the first of what is to come
-pub comes_first : (h : Option Symbol) (s : Meaning) (m : Symbol) (s' : Meaning) → Comes h s m s' → seen h s.told.modules ≡ m ∷ s'.told.modules
-comes_first None s m s' c = c.0
-comes_first (Some h) s m s' c = λ i. sym c.0 i ∷ (sym c.1 i).told.modules
-
-comes_ending : (h : Option Symbol) (s : Meaning) (m : Symbol) (s' : Meaning) → Comes h s m s' → s'.told.ending ≡ s.told.ending
-comes_ending None s m s' c = c.1
-comes_ending (Some h) s m s' c = ap (λ (x : Meaning). x.told.ending) c.1
+use Rattle.plot.proofs.Coming.{comes_first, comes_ending, comes_number}
 
 -- the plot v is on the walk of the word that w means, behind the modules `done`, and l was the latest ending
 pub record On (w : Meaning) (done : List Symbol) (l : Latest) (v : View) : Type 0 where

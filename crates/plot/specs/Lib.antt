@@ -3,3 +3,4 @@ pub mod Runs
 pub mod Piles
 pub mod Positions
 pub mod Law
+pub mod ToTheEnd

@@ -2,6 +2,7 @@
 use super::state::State;
 use word::source::Source;
 
+pub mod run;
 pub mod step;
 
 /// Follows the word of a source with the turtle, from home on.

@@ -13,9 +13,10 @@ use Rattle.word.specs.declared.fault.Fault.{Fault}
 use Rattle.plot.specs.Views.{View, New, fault_at, deed_in, Over, Hears, Holds, Steps}
 use Rattle.plot.specs.declared.stop.Stop.{Stop}
 use Rattle.plot.specs.declared.stop.Stop.TheVariants as stop
-use Rattle.runs.specs.Runs.{held_before, coming, gone_over, counted_on, laid, AllFit, TakesAll, last_answer}
+use Rattle.plot.specs.Positions.{seen, to_come}
+use Rattle.plot.specs.ToTheEnd.{gone_over, counted_on, laid, AllFit, TakesAll, last_answer}
+use Rattle.plot.proofs.Coming.{comes_first}
 use Rattle.runs.specs.Plotted.{unless_breaks, passed, latest_of, unless_broken, way_ends, way, way_end, Plotted}
-use Rattle.runs.proofs.Running.{comes_first}
 
 -- the next module, behind v, of the word v ++ (m ∷ (w ++ r))
 shifted : (v : List Symbol) (m : Symbol) (w r : List Symbol) → (v ++ (m ∷ [])) ++ (w ++ r) ≡ v ++ (m ∷ (w ++ r))
@@ -111,41 +112,41 @@ places c k (m ∷ w) =
 
 -- the plot u has taken the modules w of the word that m means
 record Along (m : Meaning) (w : List Symbol) (u : View) : Type 0 where
-  modules : m.told.modules ≡ w ++ coming u
+  modules : m.told.modules ≡ w ++ to_come u
   ending : u.source.told.ending ≡ m.told.ending
   generation : u.source.generation ≡ m.generation
   walk : u.walk ≡ walk_over m.opened w
   taken : u.taken ≡ length w
-  way : way m ≡ w ++ passed (walked (start m.opened) w) (coming u)
-  way_end : way_end m ≡ way_ends m.generation (length w) (walked (start m.opened) w) (coming u) m.told.ending
+  way : way m ≡ w ++ passed (walked (start m.opened) w) (to_come u)
+  way_end : way_end m ≡ way_ends m.generation (length w) (walked (start m.opened) w) (to_come u) m.told.ending
 
 along : (m : Meaning) (v : View) (c : Content) (w : List Symbol) (b : Content) (u : View) → Lawful m → New m v → TakesAll v c w b u → Along m w u
 along m v c w b u law n t =
     let d = m.opened in
     let e = m.told.ending in
-    let whole : m.told.modules ≡ w ++ coming u = sym (λ i. held_before (n.held i) (n.source i).told.modules) ∙ t.modules in
-    let h : nested d (w ++ coming u) e ≡ true = ap (λ l. nested d l e) (sym whole) ∙ law.brackets in
+    let whole : m.told.modules ≡ w ++ to_come u = sym (λ i. seen (n.held i) (n.source i).told.modules) ∙ t.modules in
+    let h : nested d (w ++ to_come u) e ≡ true = ap (λ l. nested d l e) (sym whole) ∙ law.brackets in
     let P : List Symbol → Type 0 = λ l. length l ≤ 16_000_000 in
-    let few : length (w ++ coming u) ≤ 16_000_000 = subst P whole law.few in
+    let few : length (w ++ to_come u) ≤ 16_000_000 = subst P whole law.few in
     let begun : v.walk ≡ walk_over d [] = n.walk ∙ onwards.starts d in
     let fit : AllFit c (walk_over d []) w = subst (λ (k : Walk). AllFit c k w) begun t.fit in
-    let free : Unbroken (start d) w = unbroken d [] w (coming u) e h few c fit in
-    let short : 0 + length w ≤ 16_000_000 = omega (arith, length-append w (coming u), few) in
+    let free : Unbroken (start d) w = unbroken d [] w (to_come u) e h few c fit in
+    let short : 0 + length w ≤ 16_000_000 = omega (arith, length-append w (to_come u), few) in
     record {
       modules = whole;
       ending = t.ending ∙ ap (λ (x : Meaning). x.told.ending) n.source;
       generation = t.generation ∙ ap (λ (x : Meaning). x.generation) n.source;
-      walk = t.walk ∙ ap (λ k. gone_over k w) begun ∙ over d [] w (coming u) e h few;
+      walk = t.walk ∙ ap (λ k. gone_over k w) begun ∙ over d [] w (to_come u) e h few;
       taken = t.taken ∙ ap (λ k. counted_on k w) n.taken ∙ counted_all 0 w short ∙ omega arith;
-      way = ap (passed (start d)) whole ∙ passed_on (start d) w (coming u) free;
-      way_end = ap (λ l. way_ends m.generation 0 (start d) l e) whole ∙ ends_on m.generation 0 (start d) w (coming u) e free ∙ ap (λ k. way_ends m.generation k (walked (start d) w) (coming u) e) (omega arith);
+      way = ap (passed (start d)) whole ∙ passed_on (start d) w (to_come u) free;
+      way_end = ap (λ l. way_ends m.generation 0 (start d) l e) whole ∙ ends_on m.generation 0 (start d) w (to_come u) e free ∙ ap (λ k. way_ends m.generation k (walked (start d) w) (to_come u) e) (omega arith);
     }
 
 -- no module comes any more
 at_end : (m : Meaning) (w : List Symbol) (u : View) (e : Ending) (v' : View) → Along m w u → Over u e → Hears u (latest_of e) v' → Plotted m v'
 at_end m w u e v' a o h =
     let t = walked (start m.opened) w in
-    let none : coming u ≡ [] = λ i. held_before (o.0 i) (o.1 i) in
+    let none : to_come u ≡ [] = λ i. seen (o.0 i) (o.1 i) in
     let all : way m ≡ w = a.way ∙ ap (λ r. w ++ passed t r) none ∙ append-nil w in
     let ending : m.told.ending ≡ e = sym a.ending ∙ o.2 in
     record {
@@ -159,7 +160,7 @@ at_limit : (m : Meaning) (w : List Symbol) (u : View) (x : Symbol) (n : ℕ) (f 
 at_limit m w u x n f v' a b g h =
     let t = walked (start m.opened) w in
     let r = v'.source.told.modules in
-    let first : coming u ≡ x ∷ r = comes_first u.held u.source x v'.source h.0 in
+    let first : to_come u ≡ x ∷ r = comes_first u.held u.source x v'.source h.0 in
     let broken_at : deed x t.stance ≡ breaks n = ap (λ (k : Walk). deed x k.turtle.stance) (sym a.walk) ∙ b in
     let all : way m ≡ w = a.way ∙ ap (λ l. w ++ passed t l) first ∙ ap (λ y. w ++ unless_breaks y (x ∷ passed (moved t x) r)) broken_at ∙ append-nil w in
     let ends : way_end m ≡ Broken (record { cause = n; generation = m.generation; place = length w + 1 }) =
@@ -172,7 +173,7 @@ at_limit m w u x n f v' a b g h =
     }
 
 -- a sheet with space for every word has space for this one
-never_full : (m : Meaning) (v : View) (c : Content) (w : List Symbol) (b : Content) (u : View) (x : Symbol) (s : Meaning) → c.space ≡ 16_000_000 → Lawful m → TakesAll v c w b u → Along m w u → coming u ≡ x ∷ s.told.modules → b.space ≡ 0 → ⊥
+never_full : (m : Meaning) (v : View) (c : Content) (w : List Symbol) (b : Content) (u : View) (x : Symbol) (s : Meaning) → c.space ≡ 16_000_000 → Lawful m → TakesAll v c w b u → Along m w u → to_come u ≡ x ∷ s.told.modules → b.space ≡ 0 → ⊥
 never_full m v c w b u x s room law t a first none =
     let left : (laid c v.walk w).space ≡ 0 = ap (λ (k : Content). k.space) (sym t.sheet) ∙ none in
     let long : length m.told.modules ≡ length w + suc (length s.told.modules) = ap length (a.modules ∙ ap (λ l. w ++ l) first) ∙ length-append w (x ∷ s.told.modules) in

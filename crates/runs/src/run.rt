@@ -1,6 +1,6 @@
 // A plot that is stepped until a step takes no module.
 ghost use Rattle.plot.specs.Views.{view};
-ghost use Rattle.runs.specs.Runs.{Runs};
+ghost use Rattle.plot.specs.ToTheEnd.{Runs};
 ghost use Rattle.runs.specs.Plotted.{Plotted};
 
 use plot::plot::Plot;
@@ -13,8 +13,7 @@ use word::source::Source;
 pub fn run_to_end<S: Source + Drop, K: Sheet>(plot: &mut Plot<S>, sheet: &mut K) -> Result<(), Stop>
     ensures { Runs (view (S.Source.means plot.old.source) plot.old.inner) (K.Sheet.means sheet.old) result (K.Sheet.means sheet.new) (view (S.Source.means plot.new.source) plot.new.inner) }
 {
-    while plot.step(sheet)?.is_some() {}
-    Ok(())
+    plot.run(sheet)
 }
 
 /// A plot that has followed the whole word of a source, from home on, as far as the turtle can go.

@@ -17,7 +17,7 @@ use word::module::Module;
 use word::source::Source;
 
 /// No word has more modules.
-const MOST: u32 = 16_000_000;
+pub(super) const MOST: u32 = 16_000_000;
 
 impl<S: Source + Drop> Plot<S> {
     /// A plot at home, with one home pose stored for each open bracket of its source.
@@ -38,6 +38,7 @@ impl<S: Source + Drop> Plot<S> {
     }
 
     // The module that is held, or the next of the source, which is held then.
+    #[inline(always)]
     fn look(&mut self) -> Result<Option<Module>, Fault>
         ensures { Looks (view (S.Source.means self.old.source) self.old.inner) result (view (S.Source.means self.new.source) self.new.inner) }
     {
@@ -48,7 +49,7 @@ impl<S: Source + Drop> Plot<S> {
     }
 
     // The fault of a limit at the module that is held.
-    fn broken(&self, cause: u8) -> Fault
+    pub(super) fn broken(&self, cause: u8) -> Fault
         ensures { result ≡ fault_at (view (S.Source.means self.now.source) self.now.inner) cause }
     {
         Fault {

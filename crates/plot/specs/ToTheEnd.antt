@@ -1,21 +1,19 @@
 -- A plot that is stepped until a step takes no module, in every state.
-use Rattle.std.specs.Prelude.{◌≡◌, ℕ, ◌+◌, min, List, [], ◌∷◌, ◌++◌, fold, Some, None, Option, Ok, Err, Result}
+use Rattle.std.specs.Prelude.{◌≡◌, ℕ, ◌+◌, min, List, [], ◌∷◌, ◌++◌, fold, Some, Ok, Err, Result}
+use Rattle.word.specs.declared.fault.Fault.{Fault}
 use Rattle.word.specs.Symbols.{Symbol}
 use Rattle.turtle.specs.Deeds.{deed}
 use Rattle.sheet.specs.Sheets.{Content}
+use Rattle.report.specs.declared.ending.Ending.TheVariants.{Broken}
+use Rattle.turtle.specs.Acts.{cause_of}
+use Rattle.walk.specs.declared.refusal.Refusal.{Refusal}
+use Rattle.walk.specs.declared.refusal.Refusal.TheVariants.{Limit, NoSpace}
 use Rattle.walk.specs.Walks.{Walk}
 use Rattle.walk.specs.Walkers.{gone_on, sheet_after, Fits}
-use Rattle.plot.specs.Views.{View, Answer, ended, faulted, no_space, Steps}
+use Rattle.plot.specs.Views.{View, Answer, ended, faulted, no_space, Has, Steps}
+use Rattle.plot.specs.Positions.{to_come}
 use Rattle.plot.specs.declared.stop.Stop.{Stop}
 use Rattle.plot.specs.declared.stop.Stop.TheVariants as stop
-
--- the modules that come to a plot: the one that is held, and those that its source tells
-abbrev pub held_before : Option Symbol → List Symbol → List Symbol
-held_before None w = w
-held_before (Some m) w = m ∷ w
-
-abbrev pub coming : View → List Symbol
-coming v = held_before v.held v.source.told.modules
 
 -- the walk k, gone on over some modules
 abbrev pub gone_over : Walk → List Symbol → Walk
@@ -37,7 +35,7 @@ AllFit c k (m ∷ w) = Fits c (deed m k.turtle.stance) × AllFit (sheet_after c 
 
 -- the plot v, lent a sheet that means c, takes the modules w, and is v' then, and the sheet means c'
 pub record TakesAll (v : View) (c : Content) (w : List Symbol) (c' : Content) (v' : View) : Type 0 where
-  pub modules : coming v ≡ w ++ coming v'
+  pub modules : to_come v ≡ w ++ to_come v'
   pub ending : v'.source.told.ending ≡ v.source.told.ending
   pub generation : v'.source.generation ≡ v.source.generation
   pub taken : v'.taken ≡ counted_on v.taken w
@@ -55,3 +53,10 @@ last_answer (Err stop.NoSpace) = no_space
 -- RUN TO THE END, lent a sheet that means c, which means c' then: some modules are taken, and the step behind them takes none
 abbrev pub Runs : View → Content → Result (Unit {0}) Stop → Content → View → Type 0
 Runs v c r c' v' = (w : List Symbol) × (u : View) × (b : Content) × TakesAll v c w b u × Steps u b (last_answer r) c' v'
+
+-- Internal, by the parts of the code: behind n modules the module m is refused, and held; what stops the plot
+abbrev pub Refuses : View → Symbol → ℕ → Refusal → Stop → View → Type 0
+Refuses v m n (Limit l) s v' =
+    let f : Fault = record { cause = cause_of l; generation = v.source.generation; place = n + 1 } in
+    (s ≡ stop.Fault f) × Has v' v.source (Some m) n v.walk (Broken f)
+Refuses v m n NoSpace s v' = (s ≡ stop.NoSpace) × Has v' v.source (Some m) n v.walk v.latest
