@@ -11,6 +11,7 @@ use super::lefts::Lefts;
 use super::window::Window;
 use books::closed_book::ClosedBook;
 use books::modules::Modules;
+use expr::stack::Stack;
 use word::depth::Depth;
 use word::fault::Fault;
 
@@ -21,8 +22,8 @@ pub mod turn;
 pub(crate) mod write;
 
 /// The book, the generation number of the word below, the modules read ahead, one left neighbour for each depth, how many
-/// modules are in the result, the position of the next module of the word below, what is to be told next with the brackets open
-/// before it, and the fault that ends the result.
+/// modules are in the result, the position of the next module of the word below, what is to be told next, the stack on which
+/// expressions are worked out, the brackets open before what is told next, and the fault that ends the result.
 // A row and how many of it are told: no row is taken from its front.
 #[derive(Clone, Copy)]
 pub struct Rewriter {
@@ -33,6 +34,7 @@ pub struct Rewriter {
     produced: u32,
     place: u32,
     growth: Modules,
+    stack: Stack,
     told: usize,
     pub(crate) opened: Depth,
     pub(crate) fault: Option<Fault>,

@@ -44,6 +44,13 @@ impl<S: Source + Drop> Source for Stage<S> {
         }
     }
 
+    fn draw_some(&mut self, places: &mut [Module]) -> Result<usize, Fault> {
+        match self {
+            Stage::Same(source) => source.draw_some(places),
+            Stage::Grown(source) => source.draw_some(places),
+        }
+    }
+
     fn open_brackets(&self) -> Depth {
         match self {
             Stage::Same(source) => source.open_brackets(),

@@ -19,6 +19,7 @@ impl Lefts {
     }
 
     // The left neighbour at a depth.
+    #[inline(always)]
     pub(crate) fn at(&self, depth: Depth) -> Option<Module>
         ensures { option_map symbol_of result ≡ table self.now depth.brackets }
     {
@@ -26,6 +27,7 @@ impl Lefts {
     }
 
     // A module at a depth is passed: `[` hands the neighbour on to its branch, a letter that is not ignored is the neighbour now.
+    #[inline(always)]
     pub(crate) fn note(&mut self, depth: Depth, symbol: Module, ignored: bool)
         requires { after depth.brackets (symbol_of symbol) ≤ 32 }
         ensures { (some : ℕ → Bool) → some symbol.letter ≡ ignored → table self.new ≡ passed some depth.brackets (symbol_of symbol) (symbol_of symbol) (table self.old) }

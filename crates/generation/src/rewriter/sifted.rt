@@ -16,6 +16,7 @@ pub enum Sifted {
 }
 
 // What one module says, where so many brackets were opened since the look began: a number, and no `Depth`, which is of a word.
+#[inline(always)]
 pub(crate) fn sift(book: &ClosedBook, depth: u8, symbol: Module) -> Sifted
     requires { depth < 255 }
     ensures { Sifts (closed_book book.now).ignored depth (symbol_of symbol) result }

@@ -12,6 +12,7 @@ use super::super::window::Window;
 use super::Rewriter;
 use books::closed_book::ClosedBook;
 use books::modules::Modules;
+use expr::stack::Stack;
 use word::depth::Depth;
 use word::module::Module;
 use word::source::Source;
@@ -32,6 +33,7 @@ impl Rewriter {
             produced: 0,
             place: 0,
             growth: Modules::new(Module::BLANK),
+            stack: Stack::new(),
             told: 0,
             opened: depth,
             fault: None,

@@ -36,6 +36,7 @@ impl Rewriter {
     }
 
     // The result has room for what is worked out, or that is the fault.
+    #[inline(always)]
     fn room(&self) -> Result<(), Fault>
         ensures { (e : ℕ) → spans self.now.window.first.brackets (symbols_in self.now.growth) e ≡ true → Answers self.now.produced self.now.window.first.brackets e (added self.now.generation self.now.produced self.now.place (symbols_in self.now.growth)) result (symbols_in self.now.growth) }
     {
@@ -47,6 +48,7 @@ impl Rewriter {
     }
 
     // Works out a bracket, which stays as it is.
+    #[inline(always)]
     fn keep(&mut self, symbol: Module) -> Result<(), Fault>
         requires may { spans self.old.window.first.brackets (symbol_of symbol ∷ []) (after self.old.window.first.brackets (symbol_of symbol)) ≡ true }
         requires none { pending self.old ≡ [] }
@@ -59,6 +61,7 @@ impl Rewriter {
     }
 
     // Works out what the rules make of a letter between its neighbours.
+    #[inline(always)]
     fn work(&mut self, symbol: Module, right: Option<Module>) -> Result<(), Fault>
         requires letter { is_bracket symbol.letter ≡ false }
         requires none { pending self.old ≡ [] }
@@ -70,7 +73,7 @@ impl Rewriter {
             module: symbol,
             right,
         };
-        let worked = self.book.becomes(site, &mut self.growth);
+        let worked = self.book.becomes(site, &mut self.growth, &mut self.stack);
         // it is told once the module is passed
         self.told = self.growth.len();
         let nested = worked.map_err(|cause| self.found(cause.number()))?;
@@ -81,6 +84,7 @@ impl Rewriter {
     }
 
     // Works out the module in hand, by what is found on its right.
+    #[inline(always)]
     fn outcome(&mut self, symbol: Module, right: Result<Option<Module>, Fault>) -> Result<(), Fault>
         requires may { spans self.old.window.first.brackets (symbol_of symbol ∷ []) (after self.old.window.first.brackets (symbol_of symbol)) ≡ true }
         requires none { pending self.old ≡ [] }
@@ -94,6 +98,7 @@ impl Rewriter {
     }
 
     // Takes the module in hand, by what is found on its right: its outcome is told next, or the result ends in a fault.
+    #[inline(always)]
     pub(crate) fn turn(&mut self, symbol: Module, right: Result<Option<Module>, Fault>)
         requires first { symbol ≡ slice_index_or (in_window self.old.window) 0 symbol }
         requires some { 0 < length (in_window self.old.window) }
