@@ -4,8 +4,8 @@ use Rattle.std.proofs.lemmas.Bool.Decides.{nat_tests}
 use Rattle.std.proofs.lemmas.Bool.{leb-true, le-leb, false≢true, and_parts, and_from, cond_both}
 use Rattle.word.specs.Symbols.{Symbol}
 use Rattle.word.specs.Words.{Meaning, after, depth}
-use Rattle.pruner.specs.declared.State.{State}
-use Rattle.pruner.specs.declared.State.TheVariants.{Passing, Dropping}
+use Rattle.pruner.specs.declared.state.State.{State}
+use Rattle.pruner.specs.declared.state.State.TheVariants.{Passing, Dropping}
 use Rattle.pruner.specs.Pruned.{each_from_to, keep, is_cut, dropped, pruned_meaning}
 use Rattle.pruner.specs.Streaming.{drops, falls, streamed, left_in}
 

@@ -1,2 +1,5 @@
 pub mod CutOff
 pub mod Agreement
+pub mod Parting
+pub mod Sifting
+pub mod Uncut

@@ -5,17 +5,17 @@ use Rattle.std.proofs.lemmas.Bool.Decides.{nat_tests}
 use Rattle.std.proofs.lemmas.Bool.{and_parts, and_from, cond_both}
 use Rattle.word.specs.Symbols.{Symbol, is_close, valid}
 use Rattle.word.specs.Words.{Ending, clean, broken, Meaning, after, all_valid, nested, Lawful}
-use Rattle.pruner.specs.declared.State.{State}
-use Rattle.pruner.specs.declared.State.TheVariants.{Passing, Dropping}
+use Rattle.pruner.specs.declared.state.State.{State}
+use Rattle.pruner.specs.declared.state.State.TheVariants.{Passing, Dropping}
 use Rattle.pruner.specs.Streaming.{drops, falls, streamed, open_in, left_in}
 
 -- a dropped module leaves the brackets that are open outside the cut as they were
-open_drops : (q : State) (d : ℕ) (s : Symbol) → drops q d s ≡ true → open_in (falls q d) (after d s) ≡ open_in q d
+pub open_drops : (q : State) (d : ℕ) (s : Symbol) → drops q d s ≡ true → open_in (falls q d) (after d s) ≡ open_in q d
 open_drops Passing d s e = grind (arith, nat_tests)
 open_drops (Dropping c) d s e = grind (arith, nat_tests)
 
 -- where a module is passed on, as many are open outside the cut as below
-open_passes : (q : State) (d : ℕ) (s : Symbol) → drops q d s ≡ false → open_in q d ≡ d
+pub open_passes : (q : State) (d : ℕ) (s : Symbol) → drops q d s ≡ false → open_in q d ≡ d
 open_passes Passing d s e = refl
 open_passes (Dropping c) d s e = grind (arith, nat_tests)
 

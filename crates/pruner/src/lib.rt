@@ -6,25 +6,21 @@ ghost use Rattle.pruner.specs.Pruned.{pruned_meaning, CutBranch, DropsWhatIsCut}
 ghost use Rattle.pruner.specs.Streaming.{left_in};
 ghost use Rattle.pruner.specs.Lawful.{lawful_in};
 
+use state::State;
 use word::depth::Depth;
 use word::fault::Fault;
 use word::module::Module;
 use word::source::Source;
 
-// Whether modules are passed on, or dropped while at least so many brackets are open. A state by name, where an `Option` would
-// not say what none means: draw matches it and the module together.
-#[derive(Clone, Copy)]
-enum State {
-    Passing,
-    // a number, since it is compared and the least of two is taken: a `Depth` has no order
-    Dropping(u8),
-}
+mod state;
 
 /// Tells the word below without what a `%` cuts off: the rest of its branch. The bracket that closes the branch stays.
 #[derive(Drop)]
 pub struct Pruner<S: Source + Drop> {
     below: S,
     state: State,
+    // where modules from below are put to be sifted; whatever it holds, the word to come is the same
+    row: [Module; 64],
 }
 
 impl<S: Source + Drop> Pruner<S> {
@@ -35,6 +31,7 @@ impl<S: Source + Drop> Pruner<S> {
         Pruner {
             below,
             state: State::Passing,
+            row: [Module::BLANK; 64],
         }
     }
 }
@@ -52,15 +49,28 @@ impl<S: Source + Drop> Source for Pruner<S> {
             };
             // the fewest brackets open around the module
             let lowest = before.min(self.below.open_brackets().brackets);
-            match (self.state, module) {
-                (State::Passing, module) if module.letter == b'%' => {
-                    self.state = State::Dropping(before);
-                }
-                (State::Dropping(floor), _) if floor <= lowest => {}
-                (_, module) => {
-                    self.state = State::Passing;
-                    return Ok(Some(module));
-                }
+            let Some(dropping) = self.state.behind_dropped(module, before, lowest) else {
+                self.state = State::Passing;
+                return Ok(Some(module));
+            };
+            self.state = dropping;
+        }
+    }
+
+    fn draw_some(&mut self, places: &mut [Module]) -> Result<usize, Fault> {
+        let wanted = places.len().min(64);
+        loop {
+            let before = self.below.open_brackets();
+            let row = &mut self.row[..];
+            let count = self.below.draw_some(&mut row[..wanted])?;
+            if count == 0 {
+                return Ok(0);
+            }
+            let mut state = self.state;
+            let kept = state.sift(before, &row[..count], places);
+            self.state = state;
+            if kept > 0 {
+                return Ok(kept);
             }
         }
     }
