@@ -16,7 +16,9 @@ fn main(rt: HostRuntime) -> io::Result<()> {
     let mut bytes = Vec::new(rt.alloc());
     rt.stdin().take(LONGEST as u64 + 1).read_to_end(&mut bytes)?;
     let mut out = BufWriter::new(rt.alloc(), rt.stdout())?;
-    let order = order_of(&bytes);
-    write!(out, "{}", Answer { order })?;
+    let answer = Answer {
+        order: order_of(&bytes),
+    };
+    write!(out, "{answer}")?;
     out.flush()
 }

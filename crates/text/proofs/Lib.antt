@@ -1,0 +1,4 @@
+pub mod Over
+pub mod Decimals
+pub mod Modules
+pub mod Printing

@@ -1,0 +1,5 @@
+// Words printed by way of a text.
+#![tactic(auto)]
+
+pub mod show;
+mod text;
