@@ -981,7 +981,7 @@ impl Sink for &mut Plot {
 
 // Writing
 
-/// Bytes that are held.
+/// So many bytes are held. As this is a power of two, a place is kept on the page without a check.
 const PAGE: usize = 1 << 16;
 /// No module takes more bytes.
 const LONGEST_MODULE: usize = 32;
@@ -989,7 +989,8 @@ const LONGEST_MODULE: usize = 32;
 /// The word is written by pages. Where that fails, nothing more of it is.
 struct Page {
     out: File,
-    held: Vec<u8>,
+    bytes: Box<[u8; PAGE]>,
+    held: usize,
     written: io::Result<()>,
     ending: Ending,
 }
@@ -1011,8 +1012,8 @@ fn digits(n: u32) -> usize {
 
 /// Writes a number from a place on: the place behind it.
 #[inline(always)]
-fn write_number(own: &mut [u8; LONGEST_MODULE], at: usize, number: i32) -> usize {
-    own[at % LONGEST_MODULE] = b'-';
+fn write_number(bytes: &mut [u8; PAGE], at: usize, number: i32) -> usize {
+    bytes[at % PAGE] = b'-';
     let start = at + usize::from(number < 0);
     let mut n = number.unsigned_abs();
     let behind = start + digits(n);
@@ -1020,62 +1021,64 @@ fn write_number(own: &mut [u8; LONGEST_MODULE], at: usize, number: i32) -> usize
     while n >= 10 {
         let [tens, ones] = PAIRS[n as usize % 100];
         n /= 100;
-        own[(end - 1) % LONGEST_MODULE] = ones;
-        own[(end - 2) % LONGEST_MODULE] = tens;
+        bytes[(end - 1) % PAGE] = ones;
+        bytes[(end - 2) % PAGE] = tens;
         end -= 2;
     }
     if end > start {
-        own[(end - 1) % LONGEST_MODULE] = b'0' + n as u8;
+        bytes[(end - 1) % PAGE] = b'0' + n as u8;
     }
     behind
 }
 
+/// Writes a module from a place on: the place behind it.
+#[inline(always)]
+fn write_module(bytes: &mut [u8; PAGE], at: usize, module: &Module) -> usize {
+    bytes[at % PAGE] = module.letter;
+    if module.count == 0 {
+        return at + 1;
+    }
+    let mut end = at + 1;
+    for param in 0..usize::from(module.count).min(3) {
+        bytes[end % PAGE] = if param == 0 { b'(' } else { b',' };
+        end = write_number(bytes, end + 1, module.params[param]);
+    }
+    bytes[end % PAGE] = b')';
+    end + 1
+}
+
 impl Page {
     fn new(out: File) -> Page {
-        Page { out, held: Vec::with_capacity(PAGE), written: Ok(()), ending: Ok(()) }
-    }
-
-    #[inline(always)]
-    fn write(&mut self, module: &Module) {
-        if module.count == 0 {
-            self.held.push(module.letter);
-            return;
-        }
-        let mut own = [0; LONGEST_MODULE];
-        (own[0], own[1]) = (module.letter, b'(');
-        let mut at = write_number(&mut own, 2, module.params[0]);
-        for param in 1..usize::from(module.count).min(3) {
-            own[at % LONGEST_MODULE] = b',';
-            at = write_number(&mut own, at + 1, module.params[param]);
-        }
-        own[at % LONGEST_MODULE] = b')';
-        self.held.extend_from_slice(&own[..(at + 1).min(LONGEST_MODULE)]);
+        Page { out, bytes: Box::new([0; PAGE]), held: 0, written: Ok(()), ending: Ok(()) }
     }
 
     #[cold]
     fn flush(&mut self) -> Result<(), Stop> {
-        self.written = self.out.write_all(&self.held);
-        self.held.clear();
+        let held = take(&mut self.held);
+        self.written = self.out.write_all(&self.bytes[..held]);
         if self.written.is_ok() { Ok(()) } else { Err(Stop) }
     }
 
     /// Writes what is still held, and how the word ends.
     fn finish(mut self) -> io::Result<()> {
         self.written?;
-        self.held.push(b'\n');
-        write_ending(self.ending, &mut self.held)?;
-        self.out.write_all(&self.held)
+        let mut rest = self.bytes[..self.held].to_vec();
+        rest.push(b'\n');
+        write_ending(self.ending, &mut rest)?;
+        self.out.write_all(&rest)
     }
 }
 
 impl Sink for &mut Page {
     fn take(&mut self, batch: &[Module]) -> Result<(), Stop> {
-        for module in batch {
-            if self.held.len() > PAGE - LONGEST_MODULE {
-                self.flush()?;
-            }
-            self.write(module);
+        if self.held + batch.len() * LONGEST_MODULE > PAGE {
+            self.flush()?;
         }
+        let mut at = self.held;
+        for module in batch {
+            at = write_module(&mut self.bytes, at, module);
+        }
+        self.held = at;
         Ok(())
     }
 
