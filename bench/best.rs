@@ -1,9 +1,9 @@
-// A second and faster baseline in plain Rust. It takes the argument, reads the jobs and prints the bytes of `vine.rs`, and tells the same
-// faults and refusals. It is written for speed alone, as far as the streaming method goes (a layer for each generation, no word is ever
-// stored whole):
+// A second and faster baseline in plain Rust. It takes the argument, reads the jobs and prints the bytes of `vine.rs`, and tells the
+// same faults and refusals. It is written for speed, within the streaming method (a layer for each generation, no word is ever stored
+// whole):
 //
-// - A layer does not draw from the layer below: each pushes what it makes into the layer above, by batches of modules. So it is only
-//   now and then that a module passes from layer to layer, and where no rule looks right nothing waits.
+// - A layer does not draw from the layer below: each pushes what it makes into the layer above, by batches of modules. Only a module
+//   whose rules look right waits, and what follows it.
 // - The latest value of an expression is held apart from the others, and a successor without arguments is copied as it stands.
 // - The two directions of the turtle are one number, and a table says what a turn makes of it.
 // - Digits are written by pairs, into a page that goes out when it is full.
@@ -562,7 +562,7 @@ impl<'b, N: Sink> Generation<'b, N> {
         Look::Lost
     }
 
-    /// Takes in hand what is settled of the modules that wait. Where the word ends behind them, that settles it, unless it ends by a fault.
+    /// Takes in hand what is settled of the modules that wait. At a clean end all are; a fault below ends the word at the first that is not.
     #[inline(always)]
     fn settle(&mut self, ending: Option<Ending>) -> Result<(), Stop> {
         while let Some(first) = self.window.front().copied() {
