@@ -18,7 +18,7 @@ loop-text-preserved g c =
           let passed = c.make_room.ensures.passes so_far.1.plain (ap is_ok c.in_ok-make_room-in-Ok.was) in (
             so_far.0 ++ passed.0,
             has_written_append took _ _ _ _ _ so_far.1 passed.1,
-            passes_on (means c.loop-text.source).told (means c.draw_some.new.self).told v so_far.0 passed.0 _ _ _ _ drew.modules drew.ending passed.2 c.push_modules.ensures so_far.2,
+            passes_on (means c.loop-text.source).told (means c.draw_some.new.self).told v so_far.0 passed.0 _ _ _ _ drew.told.modules drew.told.ending passed.2 c.push_modules.ensures so_far.2,
           ),
     )
 
