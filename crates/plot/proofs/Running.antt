@@ -1,5 +1,5 @@
 -- One module more is taken.
-use Rattle.std.proofs.Common.{◌≡◌, ℕ, ◌+◌, min, List, [], ◌∷◌, ◌++◌, Some, None, Option, Ok, Err, Result, inl, inr, sym, refl, ap, ◌∙◌, subst, append_assoc}
+use Rattle.std.proofs.Common.{◌≡◌, ℕ, ◌+◌, min, List, [], ◌∷◌, ◌++◌, None, Option, Ok, Err, Result, inl, inr, sym, refl, ap, ◌∙◌, subst, append_assoc}
 use Rattle.std.proofs.lemmas.Grind.{fold-append}
 use Rattle.word.specs.Symbols.{Symbol}
 use Rattle.word.specs.Words.{clean, broken, Meaning}
@@ -15,7 +15,7 @@ use Rattle.walk.specs.Walks.{Walk}
 use Rattle.walk.specs.Walkers.{gone_on, sheet_after, Fits, Takes}
 use Rattle.plot.specs.declared.stop.Stop.{Stop}
 use Rattle.plot.specs.declared.stop.Stop.TheVariants as stop
-use Rattle.plot.specs.Views.{View, took, ended, faulted, answer_of, Has, Comes, Steps}
+use Rattle.plot.specs.Views.{View, took, ended, faulted, answer_of, Comes, Steps}
 use Rattle.plot.specs.Positions.{seen, to_come}
 use Rattle.plot.specs.ToTheEnd.{gone_over, counted_on, laid, AllFit, TakesAll, last_answer, Runs, Refuses}
 use Rattle.plot.proofs.Coming.{comes_first, comes_ending, comes_number}

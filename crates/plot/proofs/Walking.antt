@@ -1,5 +1,5 @@
 -- One event: the plot stays on the walk, and the answer is that of the walk.
-use Rattle.std.proofs.Common.{◌≡◌, ℕ, ◌+◌, ◌≤◌, true, cond, eqb, ltb, List, [], ◌∷◌, ◌++◌, length, drop, Some, None, Option, sym, refl, ap, ◌∙◌, subst, arith, inl, inr, length-append, append-nil, append_assoc}
+use Rattle.std.proofs.Common.{◌≡◌, ℕ, ◌+◌, ◌≤◌, true, cond, eqb, ltb, List, [], ◌∷◌, ◌++◌, length, drop, sym, refl, ap, ◌∙◌, subst, arith, inl, inr, length-append, append-nil, append_assoc}
 use Rattle.std.proofs.lemmas.Bool.{cond-true, cond-false, ne_eqb, eq-eqb, lt-ltb, le-ltb}
 use Rattle.word.specs.declared.fault.Fault.{Fault}
 use Rattle.word.specs.Symbols.{Symbol}
@@ -12,7 +12,7 @@ use Rattle.report.specs.declared.ending.Ending.TheVariants.{Open, Clean, Broken}
 use Rattle.walk.specs.Walks.{Walk, drawn_by, start, strokes, walk_over}
 use Rattle.walk.specs.Walkers.{gone_on, sheet_after, Fits, Drawing, walk_report}
 use Rattle.walk.proofs.Onwards.{onwards, strokes_more}
-use Rattle.plot.specs.Views.{View, New, took, ended, faulted, no_space, Comes, Over, Holds}
+use Rattle.plot.specs.Views.{View, New, took, ended, faulted, no_space, Over, Holds}
 use Rattle.plot.specs.Runs.{Reply, wrote, refused, Event, stepped, stood, reported, Replies, Does}
 use Rattle.plot.specs.Positions.{Call, to_step, to_stand, to_report, call, ended_by, met_by, met, written, taken_in, heard_in, listed, put_in, seen, to_come}
 use Rattle.plot.proofs.Coming.{comes_first, comes_ending, comes_number}
