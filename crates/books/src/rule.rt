@@ -15,16 +15,17 @@ pub mod order;
 
 /// Its code is `size` places of the book's from `start` on, the guard's first; its successor is the
 /// pieces, which nest `depth` deep.
-// `start` and `size` are two numbers, since a `Range` is not `Copy`, and a rule is.
+// `start` and `size` are two numbers, since a `Range` is not `Copy`, and a rule is. They are short, since a rule is copied with its
+// book.
 #[derive(Clone, Copy)]
 pub struct Rule {
     head: Head,
-    start: usize,
-    size: usize,
+    start: u16,
+    size: u16,
     guard: u8,
-    pieces: Row<Piece, 24>,
     // a number, as `deepest` counts it; no successor nests deeper than 12, so a `Depth` would say no more
     depth: u8,
+    pieces: Row<Piece, 24>,
     ghost few: { guard ≤ 200 },
     ghost within: { guard + places_in (held pieces) ≤ size },
     ghost nested: { nests 0 (map bare (held pieces)) ≡ true },

@@ -168,7 +168,7 @@ impl Rule {
         ensures grown { GrownDeep (successor (env_of names.now) (pieces_from (held self.now.pieces) (drop self.now.guard code.now))) result (symbols_in grown.new) }
         ensures emptied { on_stack stack.new ≡ [] }
     {
-        if self.size == usize::from(self.guard) {
+        if self.size == u16::from(self.guard) {
             return Ok(self.grow_plainly(grown));
         }
         grow_pieces(
@@ -204,7 +204,7 @@ impl Rule {
         }
         let mut names = Names::new();
         self.give(site, &mut names);
-        let code = book.part(self.start, self.size);
+        let code = book.part(usize::from(self.start), usize::from(self.size));
         if !self.says(code, &names, stack)? {
             return Ok(None);
         }

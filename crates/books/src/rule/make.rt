@@ -29,13 +29,14 @@ impl Rule {
             start: 0,
             size: 0,
             guard: 0,
-            pieces: Row::new(Piece::BLANK),
             depth: 0,
+            pieces: Row::new(Piece::BLANK),
         }
     }
 
     // The rule of a draft whose code stands from `start` on.
     pub(crate) fn new(draft: &Draft, start: usize) -> Rule
+        requires place { start ≤ 1_024 }
         requires few { length (pieces_in draft.now.pieces) ≤ 24 }
         requires nested { nests 0 (map bare (pieces_in draft.now.pieces)) ≡ true }
         ensures { Made draft.now start result }
@@ -45,11 +46,11 @@ impl Rule {
         pieces.extend_from_slice(successor);
         Rule {
             head: draft.head,
-            start,
-            size: draft.codes.len(),
+            start: start as u16,
+            size: draft.codes.len() as u16,
             guard: draft.guard,
-            pieces,
             depth: deepest(successor),
+            pieces,
         }
     }
 }

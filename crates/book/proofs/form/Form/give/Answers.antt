@@ -38,8 +38,8 @@ returns-in-2 c x =
     let a : to_z w32 (of_z w32 m.a) ≡ m.a = search rules in
     let b : to_z w32 (of_z w32 m.b) ≡ m.b = search rules in
     in_two ns m.a m.b g g₁ (env_of c.bind_at-in-2-2.new.names)
-      (λ y. c.bind_at-in-2.ensures y ∙ ap (λ v. bound ns 1 v g y) b)
-      (λ y. c.bind_at-in-2-2.ensures y ∙ ap (λ v. bound ns 0 v g₁ y) a) x
+    (λ y. c.bind_at-in-2.ensures y ∙ ap (λ v. bound ns 1 v g y) b)
+    (λ y. c.bind_at-in-2-2.ensures y ∙ ap (λ v. bound ns 0 v g₁ y) a) x
     ∙ so_many ns g m x 2 c.in-2.is
 
 pub returns-in_default : goal.returns-in_default
@@ -53,7 +53,7 @@ returns-in_default c x =
     let b : to_z w32 (of_z w32 m.b) ≡ m.b = search rules in
     let d : to_z w32 (of_z w32 m.c) ≡ m.c = search rules in
     in_three ns m.a m.b m.c g g₁ g₂ (env_of c.bind_at-in_default-3.new.names)
-      (λ y. c.bind_at-in_default.ensures y ∙ ap (λ v. bound ns 2 v g y) d)
-      (λ y. c.bind_at-in_default-2.ensures y ∙ ap (λ v. bound ns 1 v g₁ y) b)
-      (λ y. c.bind_at-in_default-3.ensures y ∙ ap (λ v. bound ns 0 v g₂ y) a) x
+    (λ y. c.bind_at-in_default.ensures y ∙ ap (λ v. bound ns 2 v g y) d)
+    (λ y. c.bind_at-in_default-2.ensures y ∙ ap (λ v. bound ns 1 v g₁ y) b)
+    (λ y. c.bind_at-in_default-3.ensures y ∙ ap (λ v. bound ns 0 v g₂ y) a) x
     ∙ ap (λ l. given ns l g x) (whole m.count m.a m.b m.c (omega arith))

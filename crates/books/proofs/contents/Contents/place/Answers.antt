@@ -59,7 +59,7 @@ new-rule-requires c =
     let ps = pieces_in d.pieces in
     let own = drop d.guard (code_in d.codes) in
     let u = few_pieces (rule_of d) c.requires in
-    record { few = omega (arith, u.0, length_pieces ps own); nested = sym (nests_bare ps own 0) ∙ u.1 }
+    record { place = omega arith; few = omega (arith, u.0, length_pieces ps own); nested = sym (nests_bare ps own 0) ∙ u.1 }
 
 pub invariant_of-self : goal.invariant_of-self
 invariant_of-self c =

@@ -21,14 +21,14 @@ returns-in_err-says-clause-tried c =
     let p = err_from_is_err_and c.from_residual.result c.from_residual.ensures.1 in
     rw (p.1, p.2)
     (on_fault (option_map symbol_of c.args.site.left) (symbol_of c.args.site.module) (option_map symbol_of c.args.site.right) (rule_in (code_held c.args.book.now) r) g c.give.ensures (sym c.fits.ensures ∙ c.if-not-fits.false) _
-    (c.in_err-says.ensures.said ∙ ap (λ (cs : List Code). guard g (comparisons [] (take r.guard cs))) c.part-code.ensures))
+    (c.in_err-says.ensures.said ∙ ap (λ (cs : List Code). guard g (comparisons [] (take r.guard cs))) (c.part-code.ensures ∙ (λ i. take (c.from-2.ensures i) (drop (c.from.ensures i) (code_held c.args.book.now))))))
 
 pub returns-then-not-branch-clause-tried : goal.returns-then-not-branch-clause-tried
 returns-then-not-branch-clause-tried c =
     let r = c.args.self.now in
     let g = env_of c.give.new.names in (
       on_fail (option_map symbol_of c.args.site.left) (symbol_of c.args.site.module) (option_map symbol_of c.args.site.right) (rule_in (code_held c.args.book.now) r) g c.give.ensures (sym c.fits.ensures ∙ c.if-not-fits.false)
-          (ap (λ b. verdict_of (Ok b)) (sym c.if-not-branch.true) ∙ c.in_ok-says.ensures.said ∙ ap (λ (cs : List Code). guard g (comparisons [] (take r.guard cs))) c.part-code.ensures),
+          (ap (λ b. verdict_of (Ok b)) (sym c.if-not-branch.true) ∙ c.in_ok-says.ensures.said ∙ ap (λ (cs : List Code). guard g (comparisons [] (take r.guard cs))) (c.part-code.ensures ∙ (λ i. take (c.from-2.ensures i) (drop (c.from.ensures i) (code_held c.args.book.now))))),
       ap (map symbol_of) c.requires.empty,
     )
 
@@ -39,8 +39,8 @@ returns-in_err-depth-clause-tried c =
     let p = err_from_is_err_and c.from_residual-in_err-depth.result c.from_residual-in_err-depth.ensures.1 in
     rw (p.1, p.2)
     (on_pass (option_map symbol_of c.args.site.left) (symbol_of c.args.site.module) (option_map symbol_of c.args.site.right) (rule_in (code_held c.args.book.now) r) g c.give.ensures (sym c.fits.ensures ∙ c.if-not-fits.false) _
-    (ap (λ b. verdict_of (Ok b)) (sym c.if-not-branch.false) ∙ c.in_ok-says.ensures.said ∙ ap (λ (cs : List Code). guard g (comparisons [] (take r.guard cs))) c.part-code.ensures)
-    (c.in_err-depth.ensures.grown ∙ ap (λ (cs : List Code). successor g (pieces_from (held r.pieces) (drop r.guard cs))) c.part-code.ensures))
+    (ap (λ b. verdict_of (Ok b)) (sym c.if-not-branch.false) ∙ c.in_ok-says.ensures.said ∙ ap (λ (cs : List Code). guard g (comparisons [] (take r.guard cs))) (c.part-code.ensures ∙ (λ i. take (c.from-2.ensures i) (drop (c.from.ensures i) (code_held c.args.book.now)))))
+    (c.in_err-depth.ensures.grown ∙ ap (λ (cs : List Code). successor g (pieces_from (held r.pieces) (drop r.guard cs))) (c.part-code.ensures ∙ (λ i. take (c.from-2.ensures i) (drop (c.from.ensures i) (code_held c.args.book.now))))))
 
 pub returns-clause-tried : goal.returns-clause-tried
 returns-clause-tried c =
@@ -48,8 +48,8 @@ returns-clause-tried c =
     let g = env_of c.give.new.names in
     let passed =
     on_pass (option_map symbol_of c.args.site.left) (symbol_of c.args.site.module) (option_map symbol_of c.args.site.right) (rule_in (code_held c.args.book.now) r) g c.give.ensures (sym c.fits.ensures ∙ c.if-not-fits.false) _
-    (ap (λ b. verdict_of (Ok b)) (sym c.if-not-branch.false) ∙ c.in_ok-says.ensures.said ∙ ap (λ (cs : List Code). guard g (comparisons [] (take r.guard cs))) c.part-code.ensures)
-    (c.in_ok-depth.ensures.grown.0 ∙ ap (λ (cs : List Code). successor g (pieces_from (held r.pieces) (drop r.guard cs))) c.part-code.ensures) in
+    (ap (λ b. verdict_of (Ok b)) (sym c.if-not-branch.false) ∙ c.in_ok-says.ensures.said ∙ ap (λ (cs : List Code). guard g (comparisons [] (take r.guard cs))) (c.part-code.ensures ∙ (λ i. take (c.from-2.ensures i) (drop (c.from.ensures i) (code_held c.args.book.now)))))
+    (c.in_ok-depth.ensures.grown.0 ∙ ap (λ (cs : List Code). successor g (pieces_from (held r.pieces) (drop r.guard cs))) (c.part-code.ensures ∙ (λ i. take (c.from-2.ensures i) (drop (c.from.ensures i) (code_held c.args.book.now))))) in
     (passed.0, passed.1, c.in_ok-depth.ensures.grown.1)
 
 pub returns-then-self-eq0-clause-tried : goal.returns-then-self-eq0-clause-tried
