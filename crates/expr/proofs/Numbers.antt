@@ -6,7 +6,7 @@ use Rattle.expr.specs.declared.computed.Cause.{Cause}
 use Rattle.expr.specs.declared.code.Relation.{Relation}
 use Rattle.expr.specs.Values.{Value, compared}
 use Rattle.expr.specs.Records.{value_of, numbers}
-use Rattle.expr.specs.Quick.{Quick, on, untrue, given_up, found, with_one, with_two, reached, counted, latest_three, all_three}
+use Rattle.expr.specs.Quick.{Quick, on, untrue, given_up, found, with_two, reached, counted, latest_three, all_three}
 
 -- what is written behind the numbers changes none of them
 written : (t v : ℤ) (ps : List ℤ) (n k : ℕ) → n ≤ k → numbers t (set ps k v) n ≡ numbers t ps n
@@ -49,14 +49,6 @@ pub put_on : (r : Result ℤ Cause) (t w : ℤ) (ps : List ℤ) (n : ℕ) → w 
 put_on r t w ps n e h =
     ap (λ x. reached (counted r (n + 1)) (set ps n x)) e
     ∙ topped r (set ps n t) (n + 1) (numbers t ps n) (λ v. one_more v t ps n h)
-
--- one in the place of the latest
-pub replaced : (f : ℤ → Value) (r : Result ℤ Cause) (t : ℤ) (ps : List ℤ) (n : ℕ) → 1 ≤ n → value_of r ≡ f t → reached (counted r n) ps ≡ with_one (λ x. found (f x)) (numbers t ps n)
-replaced f r t ps n h e =
-    let rest = numbers (get_or ps (n - 1) (pos 0)) ps (n - 1) in
-    topped r ps n rest (λ v. latest v ps n h)
-    ∙ ap (λ v. found v rest) e
-    ∙ sym (ap (with_one (λ x. found (f x))) (latest t ps n h))
 
 -- one in the place of the two latest
 pub joined_pair : (f : ℤ → ℤ → Value) (r : Result ℤ Cause) (t : ℤ) (ps : List ℤ) (n : ℕ) → 2 ≤ n → value_of r ≡ f (get_or ps (n - 1) (pos 0)) t → reached (counted r (n - 1)) ps ≡ with_two (λ x y. found (f x y)) (numbers t ps n)
