@@ -19,6 +19,7 @@ impl Text {
     pub(crate) fn make_room<W: fmt::Write>(&mut self, f: &mut fmt::Formatter<W>) -> fmt::Result
         ensures passes { Passes W.Write.write_str_gives f.old result (held self.old) (held self.new) f.new }
         ensures room { OnOk result (HasRoom self.new) }
+        ensures kept { OnErr result (held self.new ≡ held self.old) }
     {
         if self.has_room() {
             return Ok(());
