@@ -9,3 +9,4 @@ pub mod Growing
 pub mod Trying
 pub mod Tidy
 pub mod Answering
+pub mod Ruled

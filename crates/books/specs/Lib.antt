@@ -15,3 +15,4 @@ pub mod Kinds
 pub mod Few
 pub mod Became
 pub mod Trying
+pub mod Ruled

@@ -4,6 +4,7 @@ ghost use Rattle.word.specs.Records.{symbol_of};
 ghost use Rattle.expr.specs.Records.{on_stack};
 ghost use Rattle.books.specs.Ahead.{looks_ahead};
 ghost use Rattle.books.specs.Outcomes.{becomes};
+ghost use Rattle.books.specs.Ruled.{has_rule};
 ghost use Rattle.books.specs.Label.{Label};
 ghost use Rattle.books.specs.Contents.{book_in};
 ghost use Rattle.books.specs.Became.{Became};
@@ -38,6 +39,14 @@ impl ClosedBook {
         ensures { to_come result ≡ with_letter letter (listed self.now.contents.rules) }
     {
         RulesFor::new(letter, self.contents.rules(), &self.index)
+    }
+
+    /// Whether there is a rule for a letter. Where there is none, the letter stays as it is.
+    #[inline(always)]
+    pub fn has_rule_for(&self, letter: u8) -> bool
+        ensures { result ≡ has_rule letter (closed_book self.now).rules }
+    {
+        self.rules_for(letter).next().is_some()
     }
 
     /// Writes what becomes of a module between its neighbours: the modules of a successor, or the module itself where it stays
