@@ -1,11 +1,11 @@
 -- A letter has a rule exactly where one of the stored rules is for it, and stays as it is where it has none.
-use Rattle.std.proofs.Common.{◌≡◌, ℕ, Bool, true, false, cond, ◌&&◌, ◌||◌, eqb, List, [], ◌∷◌, length, is_some, Some, None, Option, sym, refl, ap, ◌∙◌}
+use Rattle.std.proofs.Common.{◌≡◌, ℕ, Bool, true, false, cond, ◌&&◌, ◌||◌, eqb, List, [], ◌∷◌, length, is_some, Some, None, Option, MatchOption, Bor, sym, refl, ap, ◌∙◌}
 use Rattle.std.proofs.lemmas.Bool.{or_parts}
 use Rattle.word.specs.Symbols.{Symbol}
 use Rattle.expr.specs.declared.code.Code.{Code}
 use Rattle.book.specs.Rules.{Rule, agrees, beside}
 use Rattle.book.specs.Winners.{not_false, says, decides, winner}
-use Rattle.books.specs.Ahead.{looks_right, looks_ahead}
+use Rattle.books.specs.Ahead.{looks_ahead}
 use Rattle.books.specs.Outcomes.{itself, by_rule, becomes}
 use Rattle.books.specs.Stored.{rules_in}
 use Rattle.books.specs.Ruled.{has_rule}
@@ -16,6 +16,11 @@ use Rattle.books.specs.declared.rule.Rule.{Rule as StoredRule}
 abbrev pub some_first : {A : Type 0} → List A → Bool
 some_first [] = false
 some_first (x ∷ xs) = true
+
+-- an iterator has an item exactly where some is to come
+pub yields_some : (w v : List StoredRule) (o : Option (Bor StoredRule)) → MatchOption o ((w ≡ []) × (v ≡ [])) (λ x. w ≡ x.now ∷ v) → is_some o ≡ some_first w
+yields_some w v None h = sym (ap some_first h.0)
+yields_some w v (Some x) h = sym (ap some_first h)
 
 pub has_stored : (cs : List Code) (c : ℕ) (rs : List StoredRule) → some_first (with_letter c rs) ≡ has_rule c (rules_in cs rs)
 has_stored cs c [] = refl

@@ -19,4 +19,5 @@ pub mod Stepping
 pub mod Refilling
 pub mod Telling
 pub mod Drawing
+pub mod Copying
 pub mod Wrote

@@ -1,8 +1,8 @@
 -- What was written so far, module by module.
-use Rattle.std.proofs.Common.{◌≡◌, ℕ, ◌+◌, ◌-◌, ◌<◌, ◌≤◌, List, [], ◌++◌, map, length, take, drop, sym, ap, ◌∙◌, subst, arith, length-append}
+use Rattle.std.proofs.Common.{◌≡◌, ℕ, ◌+◌, ◌-◌, ◌<◌, ◌≤◌, List, [], ◌∷◌, ◌++◌, map, length, take, drop, set, sym, ap, ◌∙◌, subst, arith, length-append, length-set}
 use borrow.Rule.Slice.PartMut.{put_mid, mid_of}
 use Rattle.std.proofs.Math.Seq.{drop-append_seam}
-use Rattle.std.proofs.lemmas.List.{map-append, length-take, length-drop, take_all, drop_all, drop-drop, append-nil}
+use Rattle.std.proofs.lemmas.List.{map-append, length-take, length-drop, take_all, drop_all, drop-drop, append-nil, take_more_set, drop-set-lt}
 use Rattle.word.specs.declared.module.Module.{Module}
 use Rattle.word.specs.Symbols.{Symbol}
 use Rattle.word.specs.Records.{symbol_of, Tells}
@@ -13,7 +13,7 @@ use Rattle.generation.specs.declared.beyond.Beyond.TheVariants.{Unread, End, Bro
 use Rattle.generation.specs.declared.rewriter.Rewriter.{Rewriter}
 use Rattle.generation.specs.declared.rewriter.write.Step.TheVariants.{Taken}
 use Rattle.generation.specs.Rewriting.{pending, left_in, TellsSome}
-use Rattle.generation.specs.Writing.{Steady, Over, Advances}
+use Rattle.generation.specs.Writing.{Steady, Over, Copied, Advances}
 use Rattle.generation.proofs.Refilling.{filled}
 use Rattle.generation.proofs.Drawing.{tells_some}
 
@@ -74,3 +74,20 @@ module _ (r : Rewriter) (places : List Module) (x : Beyond) (n : ℕ) (places1 :
         (tells_on (left_in r m) (left_in r1 m) (left_in r3 m) (map symbol_of (take n places1)) (map symbol_of (take k new)) before (subst (λ s. Tells s (map symbol_of (take k new)) (left_in r3 m)) turned now));
     behind = rest_is ∙ t.behind ∙ ap (drop k) (behind_is ∙ w.behind) ∙ drop-drop k n places;
   }
+
+-- a module more, which is told as it is
+pub wrote_copy
+    : (r : Rewriter) (places : List Module) (x : Beyond) (n : ℕ) (places1 : List Module) (r1 r2 : Rewriter) (y : Module)
+    → Wrote r places x n places1 r1
+    → Copied r1 y r2
+    → n < length places1
+    → Wrote r places x (n + 1) (set places1 n y) r2
+wrote_copy r places x n places1 r1 r2 y w c here = record {
+  fits = omega (arith, length-set {A = Module}, here);
+  none = λ more. c.none_pending;
+  steady = (c.steady.0 ∙ w.steady.0, c.steady.1 ∙ w.steady.1);
+  told = λ m fits number.
+      subst (λ (l : List Symbol). Tells (left_in r m) l (left_in r2 m)) (sym (ap (map symbol_of) (take_more_set places1 n y here) ∙ map-append symbol_of (take n places1) (y ∷ [])))
+      (tells_on (left_in r m) (left_in r1 m) (left_in r2 m) (map symbol_of (take n places1)) (symbol_of y ∷ []) (w.told m fits number) (c.told m (w.steady.1 ∙ number)));
+  behind = drop-set-lt (n + 1) places1 n y (omega arith) ∙ sym (drop-drop 1 n places1) ∙ ap (drop 1) w.behind ∙ drop-drop 1 n places;
+}

@@ -5,7 +5,7 @@ use Rattle.word.specs.declared.fault.Fault.{Fault}
 use Rattle.word.specs.declared.module.Module.{Module}
 use Rattle.word.specs.Symbols.{Symbol}
 use Rattle.word.specs.Words.{Ending, clean, broken, Meaning}
-use Rattle.word.specs.Records.{Drew, DrawsSome}
+use Rattle.word.specs.Records.{symbol_of, Tells, Drew, DrawsSome}
 use Rattle.books.specs.Kinds.{closed_book}
 use Rattle.generation.specs.declared.beyond.Beyond.{Beyond}
 use Rattle.generation.specs.declared.beyond.Beyond.TheVariants.{Unread}
@@ -16,7 +16,7 @@ use Rattle.generation.specs.Generations.{found}
 use Rattle.generation.specs.Stream.{scan}
 use Rattle.generation.specs.Windows.{in_window, flow, Fits}
 use Rattle.generation.specs.Looking.{Looks}
-use Rattle.generation.specs.Rewriting.{left_in, part_of, part_in, Sound}
+use Rattle.generation.specs.Rewriting.{pending, left_in, part_of, part_in, Sound}
 
 -- more may come, and the window has room for it
 abbrev pub Wants : Rewriter → Beyond → Type 0
@@ -56,6 +56,17 @@ to_come (Some f) = 0
 -- no more turns than this are taken before more is read
 abbrev pub turns_left : Rewriter → ℕ
 turns_left r = length (in_window r.window) + to_come r.fault
+
+-- the module x in hand is passed over and told
+pub record Copied (r : Rewriter) (x : Module) (r' : Rewriter) : Type 0 where
+  pub steady : Steady r r'
+  pub fewer : turns_left r' < turns_left r
+  pub none_pending : pending r' ≡ []
+  pub told : (m : Meaning) → r.generation ≡ m.generation → Tells (left_in r m) (symbol_of x ∷ []) (left_in r' m)
+
+abbrev pub Copies : Rewriter → Option Module → Rewriter → Type 0
+Copies r None r' = r' ≡ r
+Copies r (Some x) r' = Copied r x r'
 
 abbrev pub Advances : Rewriter → Beyond → Step → Rewriter → Type 0
 Advances r x step.Taken r' = Steady r r' × (turns_left r' < turns_left r) × Over r x (λ m. left_in r' m ≡ left_in r m)

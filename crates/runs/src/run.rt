@@ -3,6 +3,7 @@ ghost use Rattle.plot.specs.Views.{view};
 ghost use Rattle.plot.specs.ToTheEnd.{Runs};
 ghost use Rattle.runs.specs.Plotted.{Plotted};
 
+use buffered::Buffered;
 use plot::plot::Plot;
 use plot::stop::Stop;
 use sheet::sheet::Sheet;
@@ -17,10 +18,10 @@ pub fn run_to_end<S: Source + Drop, K: Sheet>(plot: &mut Plot<S>, sheet: &mut K)
 }
 
 /// A plot that has followed the whole word of a source, from home on, as far as the turtle can go.
-pub fn plot_word<S: Source + Drop>(source: S) -> Plot<S>
-    ensures { Plotted (S.Source.means source) (view (S.Source.means result.source) result.inner) }
+pub fn plot_word<S: Source + Drop>(source: S) -> Plot<Buffered<S>>
+    ensures { Plotted (S.Source.means source) (view (⟦<Buffered<S> as Source>⟧.means result.source) result.inner) }
 {
-    let mut plot = Plot::new(source);
+    let mut plot = Plot::new(Buffered::new(source));
     // a tally has space for every word, and a fault is the ending of the plot
     let _ = run_to_end(&mut plot, &mut Tally::new());
     plot

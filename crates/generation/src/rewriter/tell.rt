@@ -18,7 +18,7 @@ use word::module::Module;
 use word::source::Source;
 
 /// No word has a module at this position.
-const END: u32 = 16_000_000;
+pub(crate) const END: u32 = 16_000_000;
 
 impl Rewriter {
     // Nothing is read of a word of this generation, before which so many brackets are open.

@@ -18,7 +18,7 @@ use word::letters::is_bracket;
 use word::module::Module;
 
 /// The result has at most so many modules.
-const MOST: u32 = 16_000_000;
+pub(crate) const MOST: u32 = 16_000_000;
 /// Brackets nest at most so deep.
 const DEEPEST: u8 = 32;
 

@@ -1,12 +1,18 @@
 // What is told, written to places that are lent.
-ghost use Rattle.std.specs.Prelude.{◌≡◌, []};
+ghost use Rattle.std.specs.Prelude.{◌≡◌, ◌||◌, [], not};
+ghost use Rattle.word.specs.Symbols.{is_bracket};
+ghost use Rattle.books.specs.Kinds.{closed_book};
+ghost use Rattle.books.specs.Ruled.{has_rule};
 ghost use Rattle.generation.specs.Windows.{Sure};
 ghost use Rattle.generation.specs.Rewriting.{pending};
-ghost use Rattle.generation.specs.Writing.{Advances, Writes};
+ghost use Rattle.generation.specs.Writing.{Copies, Advances, Writes};
 
 use super::super::beyond::Beyond;
 use super::Rewriter;
+use super::tell::END;
+use super::turn::MOST;
 use word::fault::Fault;
+use word::letters::is_bracket;
 use word::module::Module;
 
 /// What taking the next module in hand comes to: it is taken, so that its outcome is told next, or the result ends in a fault; or
@@ -20,6 +26,14 @@ pub(crate) enum Step {
 }
 
 impl Rewriter {
+    // Whether modules of a letter stay as they are: brackets do, and letters without a rule.
+    #[inline(always)]
+    fn stays(&self, letter: u8) -> bool
+        ensures { result ≡ (is_bracket letter || not (has_rule letter (closed_book self.now.book).rules)) }
+    {
+        is_bracket(letter) || !self.book.has_rule_for(letter)
+    }
+
     // Takes the next module in hand.
     #[inline(always)]
     fn advance(&mut self, beyond: Beyond) -> Step
@@ -44,6 +58,26 @@ impl Rewriter {
         Step::Taken
     }
 
+    // Passes over the module in hand and tells it, where it stays as it is whatever its neighbours are.
+    #[inline(always)]
+    fn copied(&mut self) -> Option<Module>
+        requires { pending self.old ≡ [] }
+        ensures { Copies self.old result self.new }
+    {
+        let module = self.window.as_slice().first().copied()?;
+        if self.fault.is_some() || self.produced == MOST || !self.stays(module.letter) {
+            return None;
+        }
+        let ignored = self.book.ignores(module.letter);
+        let depth = self.window.first();
+        self.lefts.note(depth, module, ignored);
+        let _ = self.window.pop();
+        self.produced += 1;
+        self.place = (self.place + 1).min(END);
+        self.opened = self.window.first();
+        Some(module)
+    }
+
     // Writes the next modules of the result to the first of some places: how many; none where more has to be read from below
     // before there is one.
     pub(crate) fn write(
@@ -56,6 +90,11 @@ impl Rewriter {
     {
         let mut count = self.tell(places);
         while count < places.len() {
+            if let Some(module) = self.copied() {
+                places[count] = module;
+                count += 1;
+                continue;
+            }
             match self.advance(beyond) {
                 Step::Taken => count += self.tell(&mut places[count..]),
                 Step::Hungry if count == 0 => return Ok(None),
