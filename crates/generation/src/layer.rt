@@ -6,7 +6,7 @@ use word::source::Source;
 
 pub mod source;
 
-/// A generation of the word below. It reads from below no further ahead than the module in hand needs.
+/// A generation of the word below, of which it reads up to 65 modules at once, where the module in hand needs more than are held.
 #[derive(Drop)]
 pub struct Generation<S: Source + Drop> {
     below: S,
