@@ -1,5 +1,6 @@
 -- Internal. What a generation has still to tell is lawful in every state, where what the source below means is.
 use Rattle.std.specs.Prelude.{◌≡◌, true, drop, Some, None, Option, refl}
+use Rattle.std.specs.Option.{ForSome}
 use lib.ListN.{length-append, length-map}
 use Rattle.std.proofs.Common.{arith, sym, subst}
 use Rattle.std.proofs.lemmas.Bool.{le-leb}
@@ -13,7 +14,7 @@ use Rattle.generation.specs.Bounds.{bounded}
 use Rattle.generation.specs.Goes.{GoesOn}
 use Rattle.generation.specs.Tables.{table}
 use Rattle.generation.specs.Windows.{in_window, held, flow}
-use Rattle.generation.specs.Rewriting.{pending, telling, left_in}
+use Rattle.generation.specs.Rewriting.{pending, telling, left_in, left_over}
 
 module _ (r : Rewriter) (m : Meaning) (joined : r.window.last.brackets ≡ m.opened) (l : Lawful m) where
   -- what flows on nests
@@ -46,3 +47,7 @@ lawful_in r m joined l =
       shallow = r.opened.shallow;
       generation = omega arith;
     }
+
+pub lawful_over : (o : Option Rewriter) (m : Meaning) → ForSome o (λ r. r.window.last.brackets ≡ m.opened) → Lawful m → Lawful (left_over o m)
+lawful_over None m joined l = l
+lawful_over (Some r) m joined l = lawful_in r m (joined r refl) l

@@ -38,6 +38,11 @@ left_in r m =
     in_all m.generation r.opened.brackets (pending r)
     (telling r.fault r.book m.generation (flow r.window m) r.produced r.place r.window.first.brackets (table r.lefts))
 
+-- the same where the layer may be left out
+abbrev pub left_over : Option Rewriter → Meaning → Meaning
+left_over None m = m
+left_over (Some r) m = left_in r m
+
 -- the outcome of the module s, by what is found on its right
 module _ (r : Rewriter) (s : Symbol) where
   abbrev pub with_right : Option Symbol → Part

@@ -40,6 +40,11 @@ Seeks r s x (Some a) =
 abbrev pub Steady : Rewriter → Rewriter → Type 0
 Steady r r' = (r'.window.last ≡ r.window.last) × (r'.generation ≡ r.generation)
 
+-- the window ends where a source goes on that means m, and its number is the one of the word below
+pub record Meets (r : Rewriter) (m : Meaning) : Type 0 where
+  pub joined : r.window.last.brackets ≡ m.opened
+  pub numbered : r.generation ≡ m.generation
+
 -- over whatever source there may be, as far as r knows
 abbrev pub Over : Rewriter → Beyond → (Meaning → Type 0) → Type 0
 Over r x P = (m : Meaning) → Fits x m → r.generation ≡ m.generation → P m

@@ -11,6 +11,7 @@ pub mod cause;
 pub mod layer;
 pub mod lefts;
 pub mod rewriter;
+pub mod stage;
 pub mod window;
 
 /// The worked growths stand.

@@ -2,4 +2,3 @@
 #![tactic(auto)]
 
 pub mod pile;
-pub mod stage;

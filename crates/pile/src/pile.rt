@@ -4,8 +4,8 @@ ghost use Rattle.books.specs.Kinds.{closed_book};
 ghost use Rattle.seed.specs.Seeds.{seeded};
 ghost use Rattle.pile.specs.Piles.{piled};
 
-use super::stage::Stage;
 use books::closed_book::ClosedBook;
+use generation::stage::Stage;
 use pruner::Pruner;
 use seed::seed::Seed;
 use word::source::Source;

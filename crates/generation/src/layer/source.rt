@@ -6,7 +6,6 @@ ghost use Rattle.generation.specs.Generations.{generated};
 ghost use Rattle.generation.specs.Rewriting.{left_in};
 ghost use Rattle.generation.specs.Lawful.{lawful_in};
 
-use super::super::beyond::Beyond;
 use super::super::rewriter::Rewriter;
 use super::Generation;
 use books::closed_book::ClosedBook;
@@ -32,13 +31,7 @@ impl<S: Source + Drop> Generation<S> {
     fn write(&mut self, places: &mut [Module]) -> Result<usize, Fault>
         ensures { DrawsSome (left_in self.old.inner (S.Source.means self.old.below)) places.old result places.new (left_in self.new.inner (S.Source.means self.new.below)) }
     {
-        let mut beyond = Beyond::Unread;
-        loop {
-            if let Some(count) = self.inner.write(places, beyond)? {
-                return Ok(count);
-            }
-            beyond = self.inner.read(&mut self.below);
-        }
+        self.inner.write_over(&mut self.below, places)
     }
 }
 

@@ -1,11 +1,12 @@
 // What is told, written to places that are lent.
 ghost use Rattle.std.specs.Prelude.{◌≡◌, ◌||◌, [], not};
+ghost use Rattle.word.specs.Records.{DrawsSome};
 ghost use Rattle.word.specs.Symbols.{is_bracket};
 ghost use Rattle.books.specs.Kinds.{closed_book};
 ghost use Rattle.books.specs.Ruled.{has_rule};
 ghost use Rattle.generation.specs.Windows.{Sure};
-ghost use Rattle.generation.specs.Rewriting.{pending};
-ghost use Rattle.generation.specs.Writing.{Copies, Advances, Writes};
+ghost use Rattle.generation.specs.Rewriting.{pending, left_in};
+ghost use Rattle.generation.specs.Writing.{Meets, Copies, Advances, Writes};
 
 use super::super::beyond::Beyond;
 use super::Rewriter;
@@ -14,6 +15,7 @@ use super::turn::MOST;
 use word::fault::Fault;
 use word::letters::is_bracket;
 use word::module::Module;
+use word::source::Source;
 
 /// What taking the next module in hand comes to: it is taken, so that its outcome is told next, or the result ends in a fault; or
 /// more has to be read from below first; or the result has ended.
@@ -104,5 +106,24 @@ impl Rewriter {
             }
         }
         Ok(Some(count))
+    }
+
+    // The next modules of the result over a source, written to the first of some places; what is read of the source is held.
+    pub(crate) fn write_over<S: Source>(
+        &mut self,
+        below: &mut S,
+        places: &mut [Module],
+    ) -> Result<usize, Fault>
+        requires meets { Meets self.old (S.Source.means below.old) }
+        ensures draws { DrawsSome (left_in self.old (S.Source.means below.old)) places.old result places.new (left_in self.new (S.Source.means below.new)) }
+        ensures meets { Meets self.new (S.Source.means below.new) }
+    {
+        let mut beyond = Beyond::Unread;
+        loop {
+            if let Some(count) = self.write(places, beyond)? {
+                return Ok(count);
+            }
+            beyond = self.read(below);
+        }
     }
 }
