@@ -7,6 +7,7 @@ use Rattle.word.specs.Words.{Ending, Told, Meaning, after}
 use Rattle.word.specs.Records.{symbol_of, Tells}
 use Rattle.word.specs.Spans.{spans}
 use Rattle.book.specs.Books.{Book}
+use Rattle.books.specs.declared.closed_book.ClosedBook.{ClosedBook}
 use Rattle.books.specs.Ahead.{looks_ahead}
 use Rattle.books.specs.Kinds.{closed_book}
 use Rattle.books.specs.Ruled.{has_rule}
@@ -37,10 +38,10 @@ module _ (b : Book) (g : ℕ) (e : Ending) (n i d : ℕ) (l : Option Symbol) (s 
           ∙ one_added g n i s low
 
 -- The module x in hand of r is passed over, and r' is what is left.
-module _ (r r' : Rewriter) (x : Module) (none : pending r ≡ []) (no_fault : r.fault ≡ None) (low : r.produced < 16_000_000) (stays : (is_bracket x.letter || not (has_rule x.letter (closed_book r.book).rules)) ≡ true)
-    (book : r'.book ≡ r.book) (number : r'.generation ≡ r.generation) (popped : in_window r.window ≡ x ∷ in_window r'.window) (last : r'.window.last ≡ r.window.last)
+module _ (b : ClosedBook) (r r' : Rewriter) (x : Module) (none : pending r ≡ []) (no_fault : r.fault ≡ None) (low : r.produced < 16_000_000) (stays : (is_bracket x.letter || not (has_rule x.letter (closed_book b).rules)) ≡ true)
+    (number : r'.generation ≡ r.generation) (popped : in_window r.window ≡ x ∷ in_window r'.window) (last : r'.window.last ≡ r.window.last)
     (deeper : r'.window.first.brackets ≡ after r.window.first.brackets (symbol_of x))
-    (noted : table r'.lefts ≡ passed (closed_book r.book).ignored r.window.first.brackets (symbol_of x) (symbol_of x) (table r.lefts))
+    (noted : table r'.lefts ≡ passed (closed_book b).ignored r.window.first.brackets (symbol_of x) (symbol_of x) (table r.lefts))
     (made : r'.produced ≡ r.produced + 1) (on : r'.place ≡ onward r.place) (left : pending r' ≡ pending r) (opened : r'.opened.brackets ≡ r'.window.first.brackets) (faultless : r'.fault ≡ r.fault) where
   -- where nothing is pending, as many brackets are open as before the window
   level : r.opened.brackets ≡ r.window.first.brackets
@@ -48,18 +49,18 @@ module _ (r r' : Rewriter) (x : Module) (none : pending r ≡ []) (no_fault : r.
 
   module _ (m : Meaning) where
     abbrev rest : Told
-    rest = streamed (closed_book r.book) m.generation m.told.ending (r.produced + 1) (onward r.place) (after r.window.first.brackets (symbol_of x)) (passed (closed_book r.book).ignored r.window.first.brackets (symbol_of x) (symbol_of x) (table r.lefts)) (map symbol_of (in_window r'.window) ++ m.told.modules)
+    rest = streamed (closed_book b) m.generation m.told.ending (r.produced + 1) (onward r.place) (after r.window.first.brackets (symbol_of x)) (passed (closed_book b).ignored r.window.first.brackets (symbol_of x) (symbol_of x) (table r.lefts)) (map symbol_of (in_window r'.window) ++ m.told.modules)
 
-    before : telling r.fault r.book m.generation (flow r.window m) r.produced r.place r.window.first.brackets (table r.lefts) ≡ record { modules = symbol_of x ∷ rest.modules; ending = rest.ending }
+    before : telling r.fault b m.generation (flow r.window m) r.produced r.place r.window.first.brackets (table r.lefts) ≡ record { modules = symbol_of x ∷ rest.modules; ending = rest.ending }
     before =
-        (λ k. telling (no_fault k) r.book m.generation (record { modules = map symbol_of (popped k) ++ m.told.modules; ending = m.told.ending }) r.produced r.place r.window.first.brackets (table r.lefts))
-        ∙ turn_adds (closed_book r.book) m.generation m.told.ending r.produced r.place r.window.first.brackets (table r.lefts) (symbol_of x) (map symbol_of (in_window r'.window) ++ m.told.modules) (symbol_of x ∷ [])
-        (stays_part (closed_book r.book) m.generation m.told.ending r.produced r.place r.window.first.brackets (table r.lefts r.window.first.brackets) (symbol_of x) (map symbol_of (in_window r'.window) ++ m.told.modules) low stays)
+        (λ k. telling (no_fault k) b m.generation (record { modules = map symbol_of (popped k) ++ m.told.modules; ending = m.told.ending }) r.produced r.place r.window.first.brackets (table r.lefts))
+        ∙ turn_adds (closed_book b) m.generation m.told.ending r.produced r.place r.window.first.brackets (table r.lefts) (symbol_of x) (map symbol_of (in_window r'.window) ++ m.told.modules) (symbol_of x ∷ [])
+        (stays_part (closed_book b) m.generation m.told.ending r.produced r.place r.window.first.brackets (table r.lefts r.window.first.brackets) (symbol_of x) (map symbol_of (in_window r'.window) ++ m.told.modules) low stays)
 
-    behind : telling r'.fault r'.book m.generation (flow r'.window m) r'.produced r'.place r'.window.first.brackets (table r'.lefts) ≡ rest
-    behind = λ k. telling ((faultless ∙ no_fault) k) (book k) m.generation (flow r'.window m) (made k) (on k) (deeper k) (noted k)
+    behind : telling r'.fault b m.generation (flow r'.window m) r'.produced r'.place r'.window.first.brackets (table r'.lefts) ≡ rest
+    behind = λ k. telling ((faultless ∙ no_fault) k) b m.generation (flow r'.window m) (made k) (on k) (deeper k) (noted k)
 
-    copy_told : Tells (left_in r m) (symbol_of x ∷ []) (left_in r' m)
+    copy_told : Tells (left_in b r m) (symbol_of x ∷ []) (left_in b r' m)
     copy_told = record {
       modules = (λ k. none k ++ (before k).modules) ∙ sym (λ k. symbol_of x ∷ ((left ∙ none) k ++ (behind k).modules));
       ending = ap (λ (t : Told). t.ending) behind ∙ sym (ap (λ (t : Told). t.ending) before);
@@ -67,7 +68,7 @@ module _ (r r' : Rewriter) (x : Module) (none : pending r ≡ []) (no_fault : r.
       generation = refl;
     }
 
-  pub copied : Copied r x r'
+  pub copied : Copied b r x r'
   copied = record {
     steady = (last, number);
     fewer = omega (arith, ap length popped, ap to_come faultless);

@@ -21,3 +21,4 @@ pub mod Telling
 pub mod Drawing
 pub mod Copying
 pub mod Wrote
+pub mod Reading

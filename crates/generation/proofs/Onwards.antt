@@ -4,6 +4,7 @@ use Rattle.word.specs.declared.module.Module.{Module}
 use Rattle.word.specs.Symbols.{Symbol}
 use Rattle.word.specs.Words.{Ending, Meaning}
 use Rattle.word.specs.Records.{symbol_of}
+use Rattle.books.specs.declared.closed_book.ClosedBook.{ClosedBook}
 use Rattle.books.specs.Kinds.{closed_book}
 use Rattle.generation.specs.declared.rewriter.Rewriter.{Rewriter}
 use Rattle.generation.specs.Generations.{Part, adds, stops}
@@ -13,7 +14,7 @@ use Rattle.generation.specs.Windows.{in_window, flow}
 use Rattle.generation.specs.Rewriting.{pending, telling, in_all, left_in, Turned}
 use Rattle.generation.proofs.Turning.{turn_adds, turn_stops}
 
-module _ (r r' : Rewriter) (m : Meaning) (x : Module) (rest : List Module) (none : pending r ≡ []) (no_fault : r.fault ≡ None) (hand : in_window r.window ≡ x ∷ rest) where
+module _ (b : ClosedBook) (r r' : Rewriter) (m : Meaning) (x : Module) (rest : List Module) (none : pending r ≡ []) (no_fault : r.fault ≡ None) (hand : in_window r.window ≡ x ∷ rest) where
   abbrev pub come : List Symbol
   come = map symbol_of rest ++ m.told.modules
 
@@ -25,25 +26,25 @@ module _ (r r' : Rewriter) (m : Meaning) (x : Module) (rest : List Module) (none
 
   -- the part of the module in hand
   abbrev pub its_part : Part
-  its_part = turn (closed_book r.book) m.generation end r.produced r.place d (table r.lefts d) (symbol_of x) come
+  its_part = turn (closed_book b) m.generation end r.produced r.place d (table r.lefts d) (symbol_of x) come
 
-  before : left_in r m ≡ in_all m.generation r.opened.brackets [] (streamed (closed_book r.book) m.generation end r.produced r.place d (table r.lefts) (symbol_of x ∷ come))
+  before : left_in b r m ≡ in_all m.generation r.opened.brackets [] (streamed (closed_book b) m.generation end r.produced r.place d (table r.lefts) (symbol_of x ∷ come))
   before = λ k.
       in_all m.generation r.opened.brackets (none k)
-      (telling (no_fault k) r.book m.generation (record { modules = map symbol_of (hand k) ++ m.told.modules; ending = end }) r.produced r.place d (table r.lefts))
+      (telling (no_fault k) b m.generation (record { modules = map symbol_of (hand k) ++ m.told.modules; ending = end }) r.produced r.place d (table r.lefts))
 
-  pub turned_on : (p : Part) → its_part ≡ p → Turned r x p r' → left_in r' m ≡ left_in r m
+  pub turned_on : (p : Part) → its_part ≡ p → Turned b r x p r' → left_in b r' m ≡ left_in b r m
   turned_on (stops f) e (fault-is, pends, opens, windows, numbers) =
       (λ k.
       in_all m.generation (opens k).brackets ((pends ∙ none) k)
-      (telling (fault-is k) r'.book m.generation (flow r'.window m) r'.produced r'.place r'.window.first.brackets (table r'.lefts)))
-      ∙ ap (in_all m.generation r.opened.brackets []) (sym (turn_stops (closed_book r.book) m.generation end r.produced r.place d (table r.lefts) (symbol_of x) come f e))
+      (telling (fault-is k) b m.generation (flow r'.window m) r'.produced r'.place r'.window.first.brackets (table r'.lefts)))
+      ∙ ap (in_all m.generation r.opened.brackets []) (sym (turn_stops (closed_book b) m.generation end r.produced r.place d (table r.lefts) (symbol_of x) come f e))
       ∙ sym before
   turned_on (adds v) e p =
       (λ k.
       in_all m.generation (p.opened_stays k).brackets (p.now_pending k)
-      (telling ((p.fault_stays ∙ no_fault) k) (p.book_stays k) m.generation (flows k) (p.made k) (p.onwards k) (p.deeper k) (p.noted k)))
-      ∙ ap (in_all m.generation r.opened.brackets []) (sym (turn_adds (closed_book r.book) m.generation end r.produced r.place d (table r.lefts) (symbol_of x) come v e))
+      (telling ((p.fault_stays ∙ no_fault) k) b m.generation (flows k) (p.made k) (p.onwards k) (p.deeper k) (p.noted k)))
+      ∙ ap (in_all m.generation r.opened.brackets []) (sym (turn_adds (closed_book b) m.generation end r.produced r.place d (table r.lefts) (symbol_of x) come v e))
       ∙ sym before
     where
       tail : (a b : List Module) → x ∷ a ≡ x ∷ b → a ≡ b

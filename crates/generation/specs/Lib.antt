@@ -13,3 +13,5 @@ pub mod Tables
 pub mod Rewriting
 pub mod Writing
 pub mod Lawful
+pub mod Layers
+pub mod Grown

@@ -10,14 +10,12 @@ use Rattle.books.specs.declared.closed_book.ClosedBook.{ClosedBook}
 use Rattle.books.specs.Outcomes.{becomes}
 use Rattle.books.specs.Few.{modules_in, symbols_in}
 use Rattle.books.specs.Kinds.{closed_book}
-use Rattle.generation.specs.declared.beyond.Beyond.{Beyond}
-use Rattle.generation.specs.declared.beyond.Beyond.TheVariants.{Unread}
 use Rattle.generation.specs.declared.rewriter.Rewriter.{Rewriter}
 use Rattle.generation.specs.Generations.{next, Part, adds, stops, added, worked}
 use Rattle.generation.specs.Stream.{Table, passed, onward, turn, streamed}
 use Rattle.generation.specs.Tables.{table}
 use Rattle.word.specs.Spans.{spans}
-use Rattle.generation.specs.Windows.{in_window, flow, Kept, Fits}
+use Rattle.generation.specs.Windows.{in_window, flow, Kept}
 
 -- what is worked out already
 abbrev pub pending : Rewriter → List Symbol
@@ -32,21 +30,16 @@ telling None b g t n i d lefts = streamed (closed_book b) g t.ending n i d lefts
 abbrev pub in_all : ℕ → ℕ → List Symbol → Told → Meaning
 in_all g d v t = record { told = record { modules = v ++ t.modules; ending = t.ending }; opened = d; generation = next g }
 
--- what is still to tell over a source that means m
-abbrev pub left_in : Rewriter → Meaning → Meaning
-left_in r m =
+-- what is still to tell by the book b over a source that means m
+abbrev pub left_in : ClosedBook → Rewriter → Meaning → Meaning
+left_in b r m =
     in_all m.generation r.opened.brackets (pending r)
-    (telling r.fault r.book m.generation (flow r.window m) r.produced r.place r.window.first.brackets (table r.lefts))
-
--- the same where the layer may be left out
-abbrev pub left_over : Option Rewriter → Meaning → Meaning
-left_over None m = m
-left_over (Some r) m = left_in r m
+    (telling r.fault b m.generation (flow r.window m) r.produced r.place r.window.first.brackets (table r.lefts))
 
 -- the outcome of the module s, by what is found on its right
-module _ (r : Rewriter) (s : Symbol) where
+module _ (b : ClosedBook) (r : Rewriter) (s : Symbol) where
   abbrev pub with_right : Option Symbol → Part
-  with_right o = worked r.generation r.produced r.place r.window.first.brackets s (becomes (table r.lefts r.window.first.brackets) s o (closed_book r.book).rules)
+  with_right o = worked r.generation r.produced r.place r.window.first.brackets s (becomes (table r.lefts r.window.first.brackets) s o (closed_book b).rules)
 
   abbrev pub by_right : Result (Option Module) Fault → Part
   by_right (Ok o) = with_right (option_map symbol_of o)
@@ -66,13 +59,12 @@ Sound (Ok o) = Unit {0}
 Sound (Err f) = in_bounds (broken f) ≡ true
 
 -- the part of the module s, where the word below means m and the modules w come behind s
-abbrev pub part_in : Rewriter → Meaning → Symbol → List Symbol → Part
-part_in r m s w =
-    turn (closed_book r.book) m.generation (flow r.window m).ending r.produced r.place r.window.first.brackets (table r.lefts r.window.first.brackets) s w
+abbrev pub part_in : ClosedBook → Rewriter → Meaning → Symbol → List Symbol → Part
+part_in b r m s w =
+    turn (closed_book b) m.generation (flow r.window m).ending r.produced r.place r.window.first.brackets (table r.lefts r.window.first.brackets) s w
 
 -- all but the window stays
 pub record Reads (r r' : Rewriter) : Type 0 where
-  pub book_stays : r'.book ≡ r.book
   pub generation_stays : r'.generation ≡ r.generation
   pub lefts_stay : r'.lefts ≡ r.lefts
   pub made_stays : r'.produced ≡ r.produced
@@ -86,16 +78,8 @@ pub record ReadsOn (r : Rewriter) (m : Meaning) (r' : Rewriter) (m' : Meaning) :
   pub reads : Reads r r'
   pub kept : Kept r.window m r'.window m'
 
--- modules are read from below, at least one, or how the word below ends is known then
-pub record ReadsBeyond (r : Rewriter) (m : Meaning) (x : Beyond) (r' : Rewriter) (m' : Meaning) : Type 0 where
-  pub on : ReadsOn r m r' m'
-  pub meets : r'.window.last.brackets ≡ m'.opened
-  pub fits : Fits x m'
-  pub shorter : x ≡ Unread → length m'.told.modules < length m.told.modules
-
 -- nothing is read of a word of generation g, and d brackets are open
-pub record Begins (b : ClosedBook) (g d : ℕ) (r : Rewriter) : Type 0 where
-  pub book_is : r.book ≡ b
+pub record Begins (g d : ℕ) (r : Rewriter) : Type 0 where
   pub generation_is : r.generation ≡ g
   pub none_held : in_window r.window ≡ []
   pub first_is : r.window.first.brackets ≡ d
@@ -109,7 +93,6 @@ pub record Begins (b : ClosedBook) (g d : ℕ) (r : Rewriter) : Type 0 where
 
 -- all but what is pending stays
 pub record Stays (r r' : Rewriter) : Type 0 where
-  pub book_stays : r'.book ≡ r.book
   pub generation_stays : r'.generation ≡ r.generation
   pub window_stays : r'.window ≡ r.window
   pub lefts_stay : r'.lefts ≡ r.lefts
@@ -134,14 +117,13 @@ pub record TellsSome (r : Rewriter) (places : List Module) (n : ℕ) (places' : 
   pub behind : drop n places' ≡ drop n places
   pub all : n < length places → pending r' ≡ []
 
--- the module x in hand is passed over, and the modules v are pending
-pub record Passes (r : Rewriter) (x : Module) (v : List Symbol) (r' : Rewriter) : Type 0 where
-  pub book_stays : r'.book ≡ r.book
+-- by the book b the module x in hand is passed over, and the modules v are pending
+pub record Passes (b : ClosedBook) (r : Rewriter) (x : Module) (v : List Symbol) (r' : Rewriter) : Type 0 where
   pub generation_stays : r'.generation ≡ r.generation
   pub popped : in_window r.window ≡ x ∷ in_window r'.window
   pub deeper : r'.window.first.brackets ≡ after r.window.first.brackets (symbol_of x)
   pub last_stays : r'.window.last ≡ r.window.last
-  pub noted : table r'.lefts ≡ passed (closed_book r.book).ignored r.window.first.brackets (symbol_of x) (symbol_of x) (table r.lefts)
+  pub noted : table r'.lefts ≡ passed (closed_book b).ignored r.window.first.brackets (symbol_of x) (symbol_of x) (table r.lefts)
   pub made : r'.produced ≡ r.produced + length v
   pub onwards : r'.place ≡ onward r.place
   pub now_pending : pending r' ≡ v
@@ -149,6 +131,6 @@ pub record Passes (r : Rewriter) (x : Module) (v : List Symbol) (r' : Rewriter) 
   pub fault_stays : r'.fault ≡ r.fault
 
 -- what follows from the part of the module x in hand
-abbrev pub Turned : Rewriter → Module → Part → Rewriter → Type 0
-Turned r x (adds v) r' = Passes r x v r'
-Turned r x (stops f) r' = (r'.fault ≡ Some f) × (pending r' ≡ pending r) × (r'.opened ≡ r.opened) × (r'.window ≡ r.window) × (r'.generation ≡ r.generation)
+abbrev pub Turned : ClosedBook → Rewriter → Module → Part → Rewriter → Type 0
+Turned b r x (adds v) r' = Passes b r x v r'
+Turned b r x (stops f) r' = (r'.fault ≡ Some f) × (pending r' ≡ pending r) × (r'.opened ≡ r.opened) × (r'.window ≡ r.window) × (r'.generation ≡ r.generation)

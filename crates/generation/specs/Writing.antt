@@ -6,6 +6,7 @@ use Rattle.word.specs.declared.module.Module.{Module}
 use Rattle.word.specs.Symbols.{Symbol}
 use Rattle.word.specs.Words.{Ending, clean, broken, Meaning}
 use Rattle.word.specs.Records.{symbol_of, Tells, Drew, DrawsSome}
+use Rattle.books.specs.declared.closed_book.ClosedBook.{ClosedBook}
 use Rattle.books.specs.Kinds.{closed_book}
 use Rattle.generation.specs.declared.beyond.Beyond.{Beyond}
 use Rattle.generation.specs.declared.beyond.Beyond.TheVariants.{Unread}
@@ -23,18 +24,18 @@ abbrev pub Wants : Rewriter → Beyond → Type 0
 Wants r x = (x ≡ Unread) × (length (in_window r.window) < 65)
 
 -- what a look behind the module in hand comes to, or none where that is not settled
-abbrev pub Sees : Rewriter → Beyond → Option (Result (Option Module) Fault) → Type 0
-Sees r x None = Wants r x
-Sees r x (Some a) =
+abbrev pub Sees : ClosedBook → Rewriter → Beyond → Option (Result (Option Module) Fault) → Type 0
+Sees b r x None = Wants r x
+Sees b r x (Some a) =
     Sound a
-    × ((m : Meaning) → Fits x m → Looks (found r.generation r.place 30) (scan (closed_book r.book).ignored 64 0 (drop 1 (flow r.window m).modules)) m.told.ending a)
+    × ((m : Meaning) → Fits x m → Looks (found r.generation r.place 30) (scan (closed_book b).ignored 64 0 (drop 1 (flow r.window m).modules)) m.told.ending a)
 
 -- the right neighbour of the module s in hand, as far as its outcome needs it, or none where that is not settled
-abbrev pub Seeks : Rewriter → Symbol → Beyond → Option (Result (Option Module) Fault) → Type 0
-Seeks r s x None = Wants r x
-Seeks r s x (Some a) =
+abbrev pub Seeks : ClosedBook → Rewriter → Symbol → Beyond → Option (Result (Option Module) Fault) → Type 0
+Seeks b r s x None = Wants r x
+Seeks b r s x (Some a) =
     Sound a
-    × ((m : Meaning) → Fits x m → r.generation ≡ m.generation → (w : List Symbol) → (flow r.window m).modules ≡ s ∷ w → part_of r s a ≡ part_in r m s w)
+    × ((m : Meaning) → Fits x m → r.generation ≡ m.generation → (w : List Symbol) → (flow r.window m).modules ≡ s ∷ w → part_of b r s a ≡ part_in b r m s w)
 
 -- the end of the window and the number of the word below stay
 abbrev pub Steady : Rewriter → Rewriter → Type 0
@@ -63,23 +64,23 @@ abbrev pub turns_left : Rewriter → ℕ
 turns_left r = length (in_window r.window) + to_come r.fault
 
 -- the module x in hand is passed over and told
-pub record Copied (r : Rewriter) (x : Module) (r' : Rewriter) : Type 0 where
+pub record Copied (b : ClosedBook) (r : Rewriter) (x : Module) (r' : Rewriter) : Type 0 where
   pub steady : Steady r r'
   pub fewer : turns_left r' < turns_left r
   pub none_pending : pending r' ≡ []
-  pub told : (m : Meaning) → r.generation ≡ m.generation → Tells (left_in r m) (symbol_of x ∷ []) (left_in r' m)
+  pub told : (m : Meaning) → r.generation ≡ m.generation → Tells (left_in b r m) (symbol_of x ∷ []) (left_in b r' m)
 
-abbrev pub Copies : Rewriter → Option Module → Rewriter → Type 0
-Copies r None r' = r' ≡ r
-Copies r (Some x) r' = Copied r x r'
+abbrev pub Copies : ClosedBook → Rewriter → Option Module → Rewriter → Type 0
+Copies b r None r' = r' ≡ r
+Copies b r (Some x) r' = Copied b r x r'
 
-abbrev pub Advances : Rewriter → Beyond → Step → Rewriter → Type 0
-Advances r x step.Taken r' = Steady r r' × (turns_left r' < turns_left r) × Over r x (λ m. left_in r' m ≡ left_in r m)
-Advances r x step.Hungry r' = (r' ≡ r) × Wants r x
-Advances r x step.Over r' = (r' ≡ r) × Over r x (λ m. Ends (left_in r m) clean)
-Advances r x (step.Broken f) r' = (r' ≡ r) × Over r x (λ m. Ends (left_in r m) (broken f))
+abbrev pub Advances : ClosedBook → Rewriter → Beyond → Step → Rewriter → Type 0
+Advances b r x step.Taken r' = Steady r r' × (turns_left r' < turns_left r) × Over r x (λ m. left_in b r' m ≡ left_in b r m)
+Advances b r x step.Hungry r' = (r' ≡ r) × Wants r x
+Advances b r x step.Over r' = (r' ≡ r) × Over r x (λ m. Ends (left_in b r m) clean)
+Advances b r x (step.Broken f) r' = (r' ≡ r) × Over r x (λ m. Ends (left_in b r m) (broken f))
 
-abbrev pub Writes : Rewriter → List Module → Beyond → Result (Option ℕ) Fault → List Module → Rewriter → Type 0
-Writes r places x (Ok (Some n)) places' r' = Steady r r' × Over r x (λ m. Drew (left_in r m) places n places' (left_in r' m))
-Writes r places x (Ok None) places' r' = Steady r r' × Wants r' x × (places' ≡ places) × Over r x (λ m. left_in r' m ≡ left_in r m)
-Writes r places x (Err f) places' r' = Steady r r' × Over r x (λ m. DrawsSome (left_in r m) places (Err f) places' (left_in r' m))
+abbrev pub Writes : ClosedBook → Rewriter → List Module → Beyond → Result (Option ℕ) Fault → List Module → Rewriter → Type 0
+Writes b r places x (Ok (Some n)) places' r' = Steady r r' × Over r x (λ m. Drew (left_in b r m) places n places' (left_in b r' m))
+Writes b r places x (Ok None) places' r' = Steady r r' × Wants r' x × (places' ≡ places) × Over r x (λ m. left_in b r' m ≡ left_in b r m)
+Writes b r places x (Err f) places' r' = Steady r r' × Over r x (λ m. DrawsSome (left_in b r m) places (Err f) places' (left_in b r' m))

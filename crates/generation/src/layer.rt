@@ -1,7 +1,11 @@
 // One generation over a source.
 ghost use Rattle.std.specs.Prelude.{◌≡◌};
+ghost use Rattle.books.specs.Kinds.{closed_book};
+ghost use Rattle.generation.specs.Goes.{GoesOnBy};
+ghost use Rattle.generation.specs.Writing.{Meets};
 
 use super::rewriter::Rewriter;
+use books::closed_book::ClosedBook;
 use word::source::Source;
 
 pub mod source;
@@ -10,7 +14,8 @@ pub mod source;
 #[derive(Drop)]
 pub struct Generation<S: Source + Drop> {
     below: S,
+    book: ClosedBook,
     inner: Rewriter,
-    ghost joined: { inner.window.last.brackets ≡ (S.Source.means below).opened },
-    ghost numbered: { inner.generation ≡ (S.Source.means below).generation },
+    ghost goes_on: { GoesOnBy (closed_book book) },
+    ghost meets: { Meets inner (S.Source.means below) },
 }

@@ -8,10 +8,11 @@ ghost use Rattle.generation.specs.Sentences.{NeighboursAre};
 
 pub mod beyond;
 pub mod cause;
+pub mod generations;
 pub mod layer;
+mod layers;
 pub mod lefts;
 pub mod rewriter;
-pub mod stage;
 pub mod window;
 
 /// The worked growths stand.

@@ -6,6 +6,7 @@ ghost use Rattle.generation.specs.Generations.{generated};
 ghost use Rattle.generation.specs.Rewriting.{left_in};
 ghost use Rattle.generation.specs.Lawful.{lawful_in};
 
+use super::super::layers::draw_over;
 use super::super::rewriter::Rewriter;
 use super::Generation;
 use books::closed_book::ClosedBook;
@@ -23,29 +24,34 @@ impl<S: Source + Drop> Generation<S> {
         let depth = below.open_brackets();
         Generation {
             below,
-            inner: Rewriter::new(book, generation, depth),
+            book,
+            inner: Rewriter::new(generation, depth),
         }
     }
 
-    // The next modules, written to the first of some places. What grows them is no part of this type, and compiled once.
+    // The next modules, written to the first of some places.
     fn write(&mut self, places: &mut [Module]) -> Result<usize, Fault>
-        ensures { DrawsSome (left_in self.old.inner (S.Source.means self.old.below)) places.old result places.new (left_in self.new.inner (S.Source.means self.new.below)) }
+        ensures { DrawsSome (left_in self.old.book self.old.inner (S.Source.means self.old.below)) places.old result places.new (left_in self.new.book self.new.inner (S.Source.means self.new.below)) }
     {
-        self.inner.write_over(&mut self.below, places)
+        draw_over(
+            &self.book,
+            &mut self.inner,
+            &mut [],
+            &mut self.below,
+            places,
+        )
     }
 }
 
 impl<S: Source + Drop> Source for Generation<S> {
-    ghost means = { λ s. left_in s.inner (S.Source.means s.below) };
+    ghost means = { λ s. left_in s.book s.inner (S.Source.means s.below) };
 
-    ghost lawful = { λ s. lawful_in s.inner _ s.joined (S.Source.lawful s.below) };
+    ghost lawful = { λ s. lawful_in s.book s.goes_on s.inner _ s.meets.joined (S.Source.lawful s.below) };
 
     fn draw(&mut self) -> Result<Option<Module>, Fault> {
         let mut place = [Module::BLANK];
-        if self.write(&mut place)? == 0 {
-            return Ok(None);
-        }
-        Ok(Some(place[0]))
+        let count = self.write(&mut place)?;
+        Ok(place[..count].first().copied())
     }
 
     fn draw_some(&mut self, places: &mut [Module]) -> Result<usize, Fault> {

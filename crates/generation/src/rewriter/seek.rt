@@ -8,6 +8,7 @@ use super::super::beyond::Beyond;
 use super::super::cause::Cause;
 use super::Rewriter;
 use super::sifted::{Sifted, sift};
+use books::closed_book::ClosedBook;
 use word::fault::Fault;
 use word::letters::is_bracket;
 use word::module::Module;
@@ -15,15 +16,15 @@ use word::module::Module;
 impl Rewriter {
     // Looks for the right neighbour of the module in hand, among the 64 behind it. None is answered where those that are held do
     // not settle it and more may come.
-    fn look(&self, beyond: Beyond) -> Option<Result<Option<Module>, Fault>>
+    fn look(&self, book: &ClosedBook, beyond: Beyond) -> Option<Result<Option<Module>, Fault>>
         requires some { 0 < length (in_window self.now.window) }
         requires sure { Sure beyond }
-        ensures { Sees self.now beyond result }
+        ensures { Sees book.now self.now beyond result }
     {
         let held = self.window.as_slice();
         let mut depth = 0;
         for module in &held[1..] {
-            match sift(&self.book, depth, *module) {
+            match sift(book, depth, *module) {
                 Sifted::On(next) => depth = next,
                 Sifted::Closed => return Some(Ok(None)),
                 Sifted::Neighbour => return Some(Ok(Some(*module))),
@@ -43,17 +44,18 @@ impl Rewriter {
     #[inline(always)]
     pub(crate) fn seek(
         &self,
+        book: &ClosedBook,
         module: Module,
         beyond: Beyond,
     ) -> Option<Result<Option<Module>, Fault>>
         requires first { «module» ≡ slice_index_or (in_window self.now.window) 0 «module» }
         requires some { 0 < length (in_window self.now.window) }
         requires sure { Sure beyond }
-        ensures { Seeks self.now (symbol_of «module») beyond result }
+        ensures { Seeks book.now self.now (symbol_of «module») beyond result }
     {
-        if is_bracket(module.letter) || !self.book.looks_ahead(module) {
+        if is_bracket(module.letter) || !book.looks_ahead(module) {
             return Some(Ok(None));
         }
-        self.look(beyond)
+        self.look(book, beyond)
     }
 }

@@ -4,9 +4,8 @@ ghost use Rattle.word.specs.Records.{symbol_of};
 ghost use Rattle.books.specs.Few.{modules_in, symbols_in};
 ghost use Rattle.word.specs.Spans.{spans};
 ghost use Rattle.generation.specs.Windows.{in_window};
-ghost use Rattle.generation.specs.Rewriting.{Begins, ReadsBeyond, TellsSome, Passes};
+ghost use Rattle.generation.specs.Rewriting.{Begins, TellsSome, Passes};
 
-use super::super::beyond::Beyond;
 use super::super::lefts::Lefts;
 use super::super::window::Window;
 use super::Rewriter;
@@ -15,18 +14,16 @@ use books::modules::Modules;
 use expr::stack::Stack;
 use word::depth::Depth;
 use word::module::Module;
-use word::source::Source;
 
 /// No word has a module at this position.
 pub(crate) const END: u32 = 16_000_000;
 
 impl Rewriter {
     // Nothing is read of a word of this generation, before which so many brackets are open.
-    pub(crate) fn new(book: ClosedBook, generation: u8, depth: Depth) -> Rewriter
-        ensures { Begins book generation depth.brackets result }
+    pub(crate) fn new(generation: u8, depth: Depth) -> Rewriter
+        ensures { Begins generation depth.brackets result }
     {
         Rewriter {
-            book,
             generation,
             window: Window::empty(depth),
             lefts: Lefts::new(),
@@ -38,15 +35,6 @@ impl Rewriter {
             opened: depth,
             fault: None,
         }
-    }
-
-    // Reads modules from below into the window, or how the word below ends.
-    pub(crate) fn read<S: Source>(&mut self, below: &mut S) -> Beyond
-        requires room { length (in_window self.old.window) < 65 }
-        requires meets { self.old.window.last.brackets ≡ (S.Source.means below.old).opened }
-        ensures { ReadsBeyond self.old (S.Source.means below.old) result self.new (S.Source.means below.new) }
-    {
-        self.window.refill(below)
     }
 
     // The next modules that are worked out already, written to the first of some places, as many as there are places for: how many.
@@ -73,14 +61,14 @@ impl Rewriter {
 
     // Passes over the module in hand; its outcome, which is worked out, is told next.
     #[inline(always)]
-    pub(crate) fn pass(&mut self, symbol: Module)
+    pub(crate) fn pass(&mut self, book: &ClosedBook, symbol: Module)
         requires first { symbol ≡ slice_index_or (in_window self.old.window) 0 symbol }
         requires some { 0 < length (in_window self.old.window) }
         requires leads { spans self.old.opened.brackets (symbols_in self.old.growth) (after self.old.window.first.brackets (symbol_of symbol)) ≡ true }
         requires room { self.old.produced + length (symbols_in self.old.growth) ≤ 16_000_000 }
-        ensures { Passes self.old symbol (symbols_in self.old.growth) self.new }
+        ensures { Passes book.now self.old symbol (symbols_in self.old.growth) self.new }
     {
-        let ignored = self.book.ignores(symbol.letter);
+        let ignored = book.ignores(symbol.letter);
         let depth = self.window.first();
         self.lefts.note(depth, symbol, ignored);
         let _ = self.window.pop();

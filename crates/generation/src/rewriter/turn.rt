@@ -12,6 +12,7 @@ ghost use Rattle.generation.specs.Rewriting.{Answers, pending, with_right, part_
 
 use super::super::cause::Cause;
 use super::Rewriter;
+use books::closed_book::ClosedBook;
 use books::site::Site;
 use word::fault::Fault;
 use word::letters::is_bracket;
@@ -62,10 +63,15 @@ impl Rewriter {
 
     // Works out what the rules make of a letter between its neighbours.
     #[inline(always)]
-    fn work(&mut self, symbol: Module, right: Option<Module>) -> Result<(), Fault>
+    fn work(
+        &mut self,
+        book: &ClosedBook,
+        symbol: Module,
+        right: Option<Module>,
+    ) -> Result<(), Fault>
         requires letter { is_bracket symbol.letter ≡ false }
         requires none { pending self.old ≡ [] }
-        ensures { Worked (with_right self.old (symbol_of symbol) (option_map symbol_of right)) self.old.window.first.brackets self.old result self.new }
+        ensures { Worked (with_right book.now self.old (symbol_of symbol) (option_map symbol_of right)) self.old.window.first.brackets self.old result self.new }
     {
         let depth = self.window.first();
         let site = Site {
@@ -73,7 +79,7 @@ impl Rewriter {
             module: symbol,
             right,
         };
-        let worked = self.book.becomes(site, &mut self.growth, &mut self.stack);
+        let worked = book.becomes(site, &mut self.growth, &mut self.stack);
         // it is told once the module is passed
         self.told = self.growth.len();
         let nested = worked.map_err(|cause| self.found(cause.number()))?;
@@ -85,29 +91,39 @@ impl Rewriter {
 
     // Works out the module in hand, by what is found on its right.
     #[inline(always)]
-    fn outcome(&mut self, symbol: Module, right: Result<Option<Module>, Fault>) -> Result<(), Fault>
+    fn outcome(
+        &mut self,
+        book: &ClosedBook,
+        symbol: Module,
+        right: Result<Option<Module>, Fault>,
+    ) -> Result<(), Fault>
         requires may { spans self.old.window.first.brackets (symbol_of symbol ∷ []) (after self.old.window.first.brackets (symbol_of symbol)) ≡ true }
         requires none { pending self.old ≡ [] }
         requires sound { Sound right }
-        ensures { Worked (part_of self.old (symbol_of symbol) right) (after self.old.window.first.brackets (symbol_of symbol)) self.old result self.new }
+        ensures { Worked (part_of book.now self.old (symbol_of symbol) right) (after self.old.window.first.brackets (symbol_of symbol)) self.old result self.new }
     {
         if is_bracket(symbol.letter) {
             return self.keep(symbol);
         }
-        self.work(symbol, right?)
+        self.work(book, symbol, right?)
     }
 
     // Takes the module in hand, by what is found on its right: its outcome is told next, or the result ends in a fault.
     #[inline(always)]
-    pub(crate) fn turn(&mut self, symbol: Module, right: Result<Option<Module>, Fault>)
+    pub(crate) fn turn(
+        &mut self,
+        book: &ClosedBook,
+        symbol: Module,
+        right: Result<Option<Module>, Fault>,
+    )
         requires first { symbol ≡ slice_index_or (in_window self.old.window) 0 symbol }
         requires some { 0 < length (in_window self.old.window) }
         requires none { pending self.old ≡ [] }
         requires sound { Sound right }
-        ensures { Turned self.old symbol (part_of self.old (symbol_of symbol) right) self.new }
+        ensures { Turned book.now self.old symbol (part_of book.now self.old (symbol_of symbol) right) self.new }
     {
-        match self.outcome(symbol, right) {
-            Ok(()) => self.pass(symbol),
+        match self.outcome(book, symbol, right) {
+            Ok(()) => self.pass(book, symbol),
             Err(fault) => self.fault = Some(fault),
         }
     }

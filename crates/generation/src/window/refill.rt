@@ -1,9 +1,13 @@
 // Modules read from below.
 ghost use Rattle.std.specs.Prelude.{◌≡◌, ◌<◌, length};
 ghost use Rattle.generation.specs.Windows.{in_window, Refilled};
+ghost use Rattle.generation.specs.Layers.{stacked, Chained};
 
 use super::super::beyond::Beyond;
+use super::super::layers::{draw_from, open_brackets};
+use super::super::rewriter::Rewriter;
 use super::Window;
+use books::closed_book::ClosedBook;
 use word::source::Source;
 
 impl Window {
@@ -19,19 +23,27 @@ impl Window {
         self.start = 0;
     }
 
-    // Reads modules from below, as many as there are places for, or how the word below ends.
-    pub(crate) fn refill<S: Source>(&mut self, below: &mut S) -> Beyond
+    // Reads modules from the layers below, as many as there are places for, or how the word below ends.
+    #[cycle(layers)]
+    pub(crate) fn refill<S: Source>(
+        &mut self,
+        book: &ClosedBook,
+        below: &mut [Rewriter],
+        source: &mut S,
+    ) -> Beyond
         requires room { length (in_window self.old) < 65 }
-        requires meets { self.old.last.brackets ≡ (S.Source.means below.old).opened }
-        ensures { Refilled self.old (S.Source.means below.old) result self.new (S.Source.means below.new) }
+        requires meets { self.old.last.brackets ≡ (stacked book.now below.old (S.Source.means source.old)).opened }
+        requires chained { Chained book.now below.old (S.Source.means source.old) }
+        ensures reads { Refilled self.old (stacked book.now below.old (S.Source.means source.old)) result self.new (stacked book.now below.new (S.Source.means source.new)) }
+        ensures chained { Chained book.now below.new (S.Source.means source.new) }
     {
         self.to_front();
         let at = self.len;
-        match below.draw_some(&mut self.row[at..]) {
+        match draw_from(book, below, source, &mut self.row[at..]) {
             Ok(0) => Beyond::End,
             Ok(count) => {
                 self.len = at + count;
-                self.last = below.open_brackets();
+                self.last = open_brackets(below, source);
                 Beyond::Unread
             }
             Err(fault) => Beyond::Broken(fault),

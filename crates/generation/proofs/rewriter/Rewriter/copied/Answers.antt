@@ -22,6 +22,7 @@ note-requires c =
 
 pub returns : goal.returns
 returns c =
+    let b = c.args.book.now in
     let r = c.args.self.now in
     let x = c.in_ok-module.module in
     let s = symbol_of x in
@@ -30,6 +31,6 @@ returns c =
     let no_fault : r.fault ≡ None = search rules in
     let low : r.produced < 16_000_000 = omega (arith, r.few) in
     let popped = pops r.window c.pop.new.self x is some c.pop.result c.pop.ensures.held c.pop.ensures.first in
-    copied r _ x c.requires no_fault low (sym c.stays.ensures ∙ c.if-not-stays.false) refl refl popped.0 c.pop.ensures.last popped.1
-    (c.note.ensures (closed_book r.book).ignored (sym c.ignores-ignored.ensures) ∙ ap (λ (d : Depth). passed (closed_book r.book).ignored d.brackets s s (table r.lefts)) c.first-depth.ensures)
+    copied b r _ x c.requires no_fault low (sym c.stays.ensures ∙ c.if-not-stays.false) refl popped.0 c.pop.ensures.last popped.1
+    (c.note.ensures (closed_book b).ignored (sym c.ignores-ignored.ensures) ∙ ap (λ (d : Depth). passed (closed_book b).ignored d.brackets s s (table r.lefts)) c.first-depth.ensures)
     refl (onwards r.place c.min-self.result c.min-self.ensures) refl (ap (λ (d : Depth). d.brackets) c.first-self.ensures) refl

@@ -22,16 +22,16 @@ pub returns : goal.returns
 returns c =
     let r = c.args.self.now in
     let x = c.args.symbol in
+    let b = c.args.book.now in
     let popped = pops r.window c.pop.new.self x c.requires.first c.requires.some c.pop.result c.pop.ensures.held c.pop.ensures.first in
     record {
-      book_stays = refl;
       generation_stays = refl;
       popped = popped.0;
       deeper = popped.1;
       last_stays = c.pop.ensures.last;
       noted =
-          c.note.ensures (closed_book r.book).ignored (sym c.ignores-ignored.ensures)
-          ∙ ap (λ (d : Depth). passed (closed_book r.book).ignored d.brackets (symbol_of x) (symbol_of x) (table r.lefts)) c.first-depth.ensures;
+          c.note.ensures (closed_book b).ignored (sym c.ignores-ignored.ensures)
+          ∙ ap (λ (d : Depth). passed (closed_book b).ignored d.brackets (symbol_of x) (symbol_of x) (table r.lefts)) c.first-depth.ensures;
       made = ap (λ n. r.produced + n) (c.len.ensures ∙ sym (length-map (modules_in c.args.self.now.growth) symbol_of));
       onwards = onwards r.place c.min-self.result c.min-self.ensures;
       now_pending = refl;

@@ -5,5 +5,5 @@ use Rattle.generation.proofs.rewriter.Rewriter.seek.Goals as goal
 
 pub returns : goal.returns
 returns c =
-    seen_sought c.args.self.now (symbol_of c.args.module) c.args.beyond (sym c.is_bracket.ensures ∙ c.if-is_bracket.false)
+    seen_sought c.args.book.now c.args.self.now (symbol_of c.args.module) c.args.beyond (sym c.is_bracket.ensures ∙ c.if-is_bracket.false)
     (sym c.looks_ahead.ensures ∙ c.if-not-looks_ahead.false) c.look.result c.look.ensures

@@ -28,7 +28,6 @@ invariant_of-self c =
       | else-count-left w ↦ ap (λ (d : Depth). d.brackets) w.opened-is ∙ leads_to r.opened.brackets (map symbol_of (next_of fs r.told n)) w.after_all.result w.after_all.ensures w.unwrap-opened.result w.unwrap-opened.ensures
     ] in
     record {
-      lawful = r.lawful;
       few = r.few;
       inside = r.inside;
       counted = fewer r fs c.as_slice.ensures some n few;
@@ -54,7 +53,7 @@ returns c =
     let count : length copied ≡ n = ap length is ∙ long r fs c.as_slice.ensures some n few in
     let told : take n (copied ++ rest) ≡ next_of fs r.told n = ap (λ k. take k (copied ++ rest)) (sym count) ∙ take-append_seam copied rest ∙ is in
     record {
-      stays = record { book_stays = refl; generation_stays = refl; window_stays = refl; lefts_stay = refl; made_stays = refl; place_stays = refl };
+      stays = record { generation_stays = refl; window_stays = refl; lefts_stay = refl; made_stays = refl; place_stays = refl };
       fault_stays = refl;
       told = pending_parted r fs c.as_slice.ensures some n few ∙ ap (λ (l : List Module). map symbol_of l ++ map symbol_of (drop (r.told + n) (modules_in r.growth))) (sym told);
       opened = opened ∙ ap (λ (l : List Module). depth r.opened.brackets (map symbol_of l) (length (map symbol_of l))) (sym told);

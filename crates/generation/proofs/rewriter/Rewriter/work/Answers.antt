@@ -27,7 +27,7 @@ answered (Err k) y F n h e = absurd (subst (λ z. IsErrAnd z (F k)) e h)
 pub returns : goal.returns
 returns c =
     let r = c.args.self.now in
-    let b = closed_book r.book in
+    let b = closed_book c.args.book.now in
     let d = r.window.first.brackets in
     let s = symbol_of c.args.symbol in
     let o = option_map symbol_of c.args.right in
@@ -40,12 +40,12 @@ returns c =
     let came = subst (λ (l : Option Symbol). Became s (becomes l s o b.rules) (Ok n) w) left (subst (λ (x : Result ℕ Cause). Became s (becomes (option_map symbol_of c.at.result) s o b.rules) x w) answer c.becomes-worked.ensures.value) in
     let fits : d + nesting out ≤ 32 = omega (arith, came.1, deep, low r, c.if-nested-depth.false) in
     record {
-      stays = record { book_stays = refl; generation_stays = refl; window_stays = refl; lefts_stay = refl; made_stays = refl; place_stays = refl };
+      stays = record { generation_stays = refl; window_stays = refl; lefts_stay = refl; made_stays = refl; place_stays = refl };
       opened_stays = refl;
       fault_stays = refl;
       none_pending = ap (map symbol_of) (drop_all c.len-self.result (modules_in c.becomes-worked.new.grown) (omega (arith, c.len-self.ensures)));
       answers =
           answers_as r.produced d d _ (added r.generation r.produced r.place w) c.room.result w
           (added_of d s w c.requires.letter (low r) r.generation r.produced r.place out came.0 fits)
-          (c.room.ensures d (spans_of d s w c.requires.letter (low r) out (λ v e. (tidy r.book (table r.lefts d) s o v e).0) came.0 fits));
+          (c.room.ensures d (spans_of d s w c.requires.letter (low r) out (λ v e. (tidy c.args.book.now (table r.lefts d) s o v e).0) came.0 fits));
     }
