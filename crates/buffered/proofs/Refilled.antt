@@ -1,5 +1,5 @@
 -- A row where nothing is held, and one that was just filled.
-use Rattle.std.proofs.Common.{◌≡◌, ℕ, zero, suc, ◌+◌, ◌<◌, ◌≤◌, true, not, ◌&&◌, ltb, eqb, leb, List, [], ◌∷◌, ◌++◌, map, length, get_or, take, drop, Some, None, Ok, Err, Option, ⊎_elim, sym, refl, ap, ◌∙◌, subst, arith, rules}
+use Rattle.std.proofs.Common.{◌≡◌, ℕ, zero, suc, ◌+◌, ◌<◌, ◌≤◌, true, not, ◌&&◌, ltb, eqb, leb, List, [], ◌∷◌, ◌++◌, map, length, get_or, take, drop, Some, None, Ok, Option, ⊎_elim, sym, refl, ap, ◌∙◌, subst, arith, rules}
 use Rattle.std.specs.Option.{IsSome}
 use Rattle.std.proofs.lemmas.Bool.{and_parts, and_from, eqb-true, leb-true, lt-ltb, both_ways}
 use Rattle.std.proofs.lemmas.List.{map_more, drop_more, drop_all, length-take, length-map, length-append, get_or-take}
@@ -12,7 +12,7 @@ use Rattle.word.specs.Records.{symbol_of, Leads, Draws, Drew}
 use Rattle.word.specs.Spans.{spans}
 use Rattle.word.proofs.Spanning.{no_span}
 use Rattle.word.proofs.Joined.{span_depth, depth_append}
-use Rattle.buffered.specs.Held.{held, depth_at, left_in, Refills}
+use Rattle.buffered.specs.Held.{held, depth_at, left_in, ending_by, Refills}
 
 -- no more than 32 brackets are open before what is nested
 nested_low : (d : ℕ) (w : List Symbol) (x : Ending) → nested d w x ≡ true → d ≤ 32
@@ -84,12 +84,9 @@ fresh row first m m' here same = λ k. record {
 
 -- what a refill answers, where m is what is meant before and behind
 module _ (s m s' : Meaning) (before : s ≡ m) (behind : s' ≡ m) where
-  pub refills_none : (f : Fault) → m.told.modules ≡ [] → m.told.ending ≡ broken f → Refills s (Err f) s' 0 0
-  refills_none f none ends = (ap (λ (y : Meaning). y.told.modules) before ∙ none, ap (λ (y : Meaning). y.told.ending) before ∙ ends, behind ∙ sym before)
-
-  pub refills : (n : ℕ) → (n ≡ 0 → (m.told.modules ≡ []) × (m.told.ending ≡ clean)) → Refills s (Ok (ltb 0 n)) s' 0 n
-  refills zero e = (ap (λ (y : Meaning). y.told.modules) before ∙ (e refl).0, ap (λ (y : Meaning). y.told.ending) before ∙ (e refl).1, behind ∙ sym before)
-  refills (suc n) e = subst (λ b. Refills s (Ok b) s' 0 (suc n)) (sym (lt-ltb 0 (suc n) (omega arith))) (omega arith, behind ∙ sym before)
+  pub refills : (n : ℕ) (o : Option Fault) → (n ≡ 0 → (m.told.modules ≡ []) × (m.told.ending ≡ ending_by o)) → Refills s (ltb 0 n) s' 0 n o
+  refills zero o e = (ap (λ (y : Meaning). y.told.modules) before ∙ (e refl).0, ap (λ (y : Meaning). y.told.ending) before ∙ (e refl).1, behind ∙ sym before)
+  refills (suc n) o e = subst (λ b. Refills s b s' 0 (suc n) o) (sym (lt-ltb 0 (suc n) (omega arith))) (omega arith, behind ∙ sym before)
 
 -- a draw of some finds none only at a clean end
 pub none_drawn : (places row : List Module) (n : ℕ) (m m' : Meaning) → length places ≡ 64 → Drew m places n row m' → n ≡ 0 → (m.told.modules ≡ []) × (m.told.ending ≡ clean)

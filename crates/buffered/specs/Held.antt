@@ -1,9 +1,9 @@
 -- Internal: what a source with modules drawn from it has still to tell. `Buffered::new` says what this comes to.
-use Rattle.std.specs.Prelude.{◌≡◌, ℕ, ◌<◌, Bool, true, false, List, [], ◌++◌, map, length, take, drop, Ok, Err, Result}
+use Rattle.std.specs.Prelude.{◌≡◌, ℕ, ◌<◌, Bool, true, false, List, [], ◌++◌, map, length, take, drop, Some, None, Option}
 use Rattle.word.specs.declared.fault.Fault.{Fault}
 use Rattle.word.specs.declared.module.Module.{Module}
 use Rattle.word.specs.Symbols.{Symbol}
-use Rattle.word.specs.Words.{clean, broken, Meaning, depth}
+use Rattle.word.specs.Words.{Ending, clean, broken, Meaning, depth}
 use Rattle.word.specs.Records.{symbol_of}
 
 -- the modules of a row from one place to another
@@ -22,8 +22,12 @@ left_in row at count first m = record {
   generation = m.generation;
 }
 
+-- the ending of a word that has come to this fault, if to any
+abbrev pub ending_by : Option Fault → Ending
+ending_by None = clean
+ending_by (Some f) = broken f
+
 -- Modules are held now, or the word has come to its end. What is meant stays.
-abbrev pub Refills : Meaning → Result Bool Fault → Meaning → ℕ → ℕ → Type 0
-Refills s (Ok true) s' at count = (at < count) × (s' ≡ s)
-Refills s (Ok false) s' at count = (s.told.modules ≡ []) × (s.told.ending ≡ clean) × (s' ≡ s)
-Refills s (Err f) s' at count = (s.told.modules ≡ []) × (s.told.ending ≡ broken f) × (s' ≡ s)
+abbrev pub Refills : Meaning → Bool → Meaning → ℕ → ℕ → Option Fault → Type 0
+Refills s true s' at count o = (at < count) × (s' ≡ s)
+Refills s false s' at count o = (s.told.modules ≡ []) × (s.told.ending ≡ ending_by o) × (s' ≡ s)

@@ -22,6 +22,8 @@ pub struct Buffered<S: Source + Drop> {
     count: usize,
     // the brackets open before the first module of the row
     first: Depth,
+    // the fault that the word has ended in
+    fault: Option<Fault>,
     ghost wide: { length row ≡ 64 },
     ghost ordered: { at ≤ count },
     ghost within: { count ≤ 64 },
@@ -41,20 +43,25 @@ impl<S: Source + Drop> Buffered<S> {
             at: 0,
             count: 0,
             first,
+            fault: None,
         }
     }
 
-    // Draws some modules where none is held, and says whether there are any.
+    // Draws some modules where none is held, and says whether there are any; where there are none, how the word has ended is noted.
     #[inline(never)]
-    fn refill(&mut self) -> Result<bool, Fault>
+    fn refill(&mut self) -> bool
         requires { self.old.at ≡ self.old.count }
-        ensures { Refills (⟦<Buffered<S> as Source>⟧.means self.old) result (⟦<Buffered<S> as Source>⟧.means self.new) self.new.at self.new.count }
+        ensures { Refills (⟦<Buffered<S> as Source>⟧.means self.old) result (⟦<Buffered<S> as Source>⟧.means self.new) self.new.at self.new.count self.new.fault }
     {
         self.first = self.below.open_brackets();
         self.at = 0;
         self.count = 0;
-        self.count = self.below.draw_some(&mut self.row)?;
-        Ok(self.count > 0)
+        self.fault = None;
+        match self.below.draw_some(&mut self.row) {
+            Ok(count) => self.count = count,
+            Err(fault) => self.fault = Some(fault),
+        }
+        self.count > 0
     }
 }
 
@@ -65,8 +72,8 @@ impl<S: Source + Drop> Source for Buffered<S> {
 
     #[inline(always)]
     fn draw(&mut self) -> Result<Option<Module>, Fault> {
-        if self.at == self.count && !self.refill()? {
-            return Ok(None);
+        if self.at == self.count && !self.refill() {
+            return self.fault.map_or(Ok(None), Err);
         }
         let module = self.row[self.at];
         self.at += 1;

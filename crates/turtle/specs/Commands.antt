@@ -1,23 +1,30 @@
 -- What a letter asks of the turtle.
-use Rattle.std.specs.Prelude.{ℕ, Bool, cond, codes}
+use Rattle.std.specs.Prelude.{ℕ, Bool, cond, codes, Some, None, Option}
 use Prim.Native.String.{String}
 use Rattle.word.specs.Symbols.{among}
+use Rattle.turtle.specs.declared.turn.Turn.{Turn}
 use Rattle.turtle.specs.declared.turn.Turn.TheVariants.{Left, Right, Down, Up, RollLeft, RollRight, About}
 use Rattle.turtle.specs.declared.command.Command.{Command}
-use Rattle.turtle.specs.declared.command.Command.TheVariants.{Draw, Move, Turn, Nothing}
+use Rattle.turtle.specs.declared.command.Command.TheVariants.{Draw, Move, Nothing}
+use Rattle.turtle.specs.declared.command.Command.TheVariants as command
 
 abbrev is : String → ℕ → Bool
 is t c = among c (codes t)
 
+abbrev pub turn_of : ℕ → Option Turn
+turn_of c =
+    cond (is "+" c) (Some Left)
+    (cond (is "-" c) (Some Right)
+    (cond (is "&" c) (Some Down)
+    (cond (is "^" c) (Some Up)
+    (cond (is "\\" c) (Some RollLeft)
+    (cond (is "/" c) (Some RollRight)
+    (cond (is "|" c) (Some About)
+    None))))))
+
 abbrev pub command_of : ℕ → Command
-command_of c =
-    cond (is "F" c) Draw
-    (cond (is "f" c) Move
-    (cond (is "+" c) (Turn Left)
-    (cond (is "-" c) (Turn Right)
-    (cond (is "&" c) (Turn Down)
-    (cond (is "^" c) (Turn Up)
-    (cond (is "\\" c) (Turn RollLeft)
-    (cond (is "/" c) (Turn RollRight)
-    (cond (is "|" c) (Turn About)
-    Nothing))))))))
+command_of c = cond (is "F" c) Draw (for_others (turn_of c))
+  where
+    for_others : Option Turn → Command
+    for_others (Some t) = command.Turn t
+    for_others None = cond (is "f" c) Move Nothing

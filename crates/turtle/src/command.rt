@@ -1,6 +1,6 @@
 // What a letter asks of the turtle.
 ghost use Rattle.std.specs.Prelude.{◌≡◌};
-ghost use Rattle.turtle.specs.Commands.{command_of};
+ghost use Rattle.turtle.specs.Commands.{turn_of, command_of};
 
 use super::turn::Turn;
 
@@ -13,6 +13,24 @@ pub enum Command {
     Nothing,
 }
 
+// The turn that a letter asks for. It is not inlined: together with the other letters it would be a jump by a table, and that takes
+// longer than a call wherever the processor does not foresee where such a jump leads.
+#[inline(never)]
+fn turn_of(letter: char) -> Option<Turn>
+    ensures { result ≡ turn_of letter }
+{
+    match letter {
+        '+' => Some(Turn::Left),
+        '-' => Some(Turn::Right),
+        '&' => Some(Turn::Down),
+        '^' => Some(Turn::Up),
+        '\\' => Some(Turn::RollLeft),
+        '/' => Some(Turn::RollRight),
+        '|' => Some(Turn::About),
+        _ => None,
+    }
+}
+
 // What a letter asks.
 impl From<char> for Command {
     ghost from_gives = { λ letter command. command ≡ command_of letter };
@@ -21,15 +39,11 @@ impl From<char> for Command {
     fn from(letter: char) -> Command {
         match letter {
             'F' => Command::Draw,
-            'f' => Command::Move,
-            '+' => Command::Turn(Turn::Left),
-            '-' => Command::Turn(Turn::Right),
-            '&' => Command::Turn(Turn::Down),
-            '^' => Command::Turn(Turn::Up),
-            '\\' => Command::Turn(Turn::RollLeft),
-            '/' => Command::Turn(Turn::RollRight),
-            '|' => Command::Turn(Turn::About),
-            _ => Command::Nothing,
+            letter => match turn_of(letter) {
+                Some(turn) => Command::Turn(turn),
+                None if letter == 'f' => Command::Move,
+                None => Command::Nothing,
+            },
         }
     }
 }

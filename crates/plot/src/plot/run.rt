@@ -50,7 +50,9 @@ impl<S: Source + Drop> Plot<S> {
             if let Err(refusal) = self.inner.walker.take(next, sheet) {
                 return Err(self.refused(next, taken, refusal));
             }
-            taken = (taken + 1).min(MOST);
+            if taken < MOST {
+                taken += 1;
+            }
         }
     }
 

@@ -1,9 +1,9 @@
-use Rattle.std.proofs.Common.{◌≡◌, ◌<◌, true, Ok, refl, subst, arith}
+use Rattle.std.proofs.Common.{◌≡◌, ◌<◌, true, refl, subst, arith}
 use Rattle.word.specs.Words.{Meaning}
 use Rattle.buffered.specs.declared.Buffered.{Buffered}
 use Rattle.buffered.specs.Held.{left_in, Refills}
 use Rattle.buffered.proofs.Refilled.{draws_held}
-use Rattle.buffered.proofs.BufferedSource.draw.Goals.{else-self-via-then-self+in_ok-refill+else-not-branch, else-self-via-else-self}
+use Rattle.buffered.proofs.BufferedSource.draw.Goals.{else-self-via-then-self+else-not-refill, else-self-via-else-self}
 use Rattle.buffered.proofs.BufferedSource.draw.Goals as goal
 
 pub returns : goal.returns
@@ -14,9 +14,9 @@ returns g c =
     let t = c.else-self.self in
     let held : (t.at < t.count) × (meant t ≡ meant s) =
     elim c.else-self.branch [
-      | else-self-via-then-self+in_ok-refill+else-not-branch w ↦
-          let more : Refills (meant s) (Ok true) (meant w.refill.new.self) w.refill.new.self.at w.refill.new.self.count =
-          subst (λ b. Refills (meant s) (Ok b) (meant w.refill.new.self) w.refill.new.self.at w.refill.new.self.count) w.if-not-branch.false w.in_ok-refill.ensures
+      | else-self-via-then-self+else-not-refill w ↦
+          let more : Refills (meant s) true (meant w.refill.new.self) w.refill.new.self.at w.refill.new.self.count w.refill.new.self.fault =
+          subst (λ b. Refills (meant s) b (meant w.refill.new.self) w.refill.new.self.at w.refill.new.self.count w.refill.new.self.fault) w.if-not-refill.false w.refill.ensures
           in
           rw w.self-is more
       | else-self-via-else-self w ↦ rw w.self-is (omega (arith, w.if-self.false, s.ordered), refl {a = meant s})
