@@ -1,17 +1,21 @@
 -- A layer reads on below.
-use Rattle.std.proofs.Common.{◌≡◌, true, sym, refl, ◌∙◌, subst}
+use Rattle.std.proofs.Common.{◌≡◌, true, sym, refl, ◌∙◌, subst, ℕ, ◌+◌, ◌-◌, ◌<◌, ◌≤◌, List, ◌∷◌, length, drop, set, ap, arith}
+use Rattle.std.proofs.lemmas.List.{drop-set}
 use Rattle.word.specs.declared.depth.Depth.{Depth}
 use Rattle.word.specs.Words.{Ending, in_bounds, Meaning, Lawful}
 use Rattle.word.specs.Spans.{spans}
 use Rattle.books.specs.declared.closed_book.ClosedBook.{ClosedBook}
+use Rattle.books.specs.Kinds.{closed_book}
 use Rattle.generation.specs.declared.window.Window.{Window}
 use Rattle.generation.specs.declared.beyond.Beyond.{Beyond}
 use Rattle.generation.specs.declared.beyond.Beyond.TheVariants.{Unread, End, Broken}
 use Rattle.generation.specs.declared.rewriter.Rewriter.{Rewriter}
 use Rattle.generation.specs.Windows.{Fits, Sure, Refilled}
-use Rattle.generation.specs.Rewriting.{pending, left_in}
+use Rattle.generation.specs.Generations.{generated}
+use Rattle.generation.specs.Layers.{stacked}
+use Rattle.generation.specs.Rewriting.{pending, left_in, Begins}
 use Rattle.generation.specs.Writing.{Steady, Meets, Over}
-use Rattle.generation.proofs.Drawing.{reads_same}
+use Rattle.generation.proofs.Drawing.{begins_as, reads_same}
 
 -- a fault that ends a lawful word is one that may
 pub sure : (x : Beyond) (m : Meaning) → Fits x m → Lawful m → Sure x
@@ -55,3 +59,18 @@ module _ (b : ClosedBook) (r s : Rewriter) (m m' : Meaning) (x y : Beyond) (w : 
 
   pub still_meets : Meets then m'
   still_meets = record { joined = filled.meets; numbered = steady.1 ∙ meets.numbered ∙ sym filled.kept.number_stays }
+
+-- a layer that has read nothing yet, on top of others
+pub one_more
+    : (b : ClosedBook) (layers : List Rewriter) (top : ℕ) (m : Meaning) (r : Rewriter) (g d : ℕ)
+    → 0 < top
+    → top ≤ length layers
+    → Lawful (stacked b (drop top layers) m)
+    → Begins g d r
+    → g ≡ (stacked b (drop top layers) m).generation
+    → d ≡ (stacked b (drop top layers) m).opened
+    → stacked b (drop (top - 1) (set layers (top - 1) r)) m ≡ generated (closed_book b) (stacked b (drop top layers) m)
+one_more b layers top m r g d some within lawful begins number depth =
+    let next : top - 1 + 1 ≡ top = omega arith in
+    let above : drop (top - 1) (set layers (top - 1) r) ≡ r ∷ drop top layers = drop-set layers (top - 1) r (omega arith) ∙ ap (λ i. r ∷ drop i layers) next in
+    ap (λ (l : List Rewriter). stacked b l m) above ∙ begins_as b (stacked b (drop top layers) m) lawful r g d begins number depth

@@ -97,6 +97,17 @@ pub free_takes : (s : Meaning) (n : ℕ) (k : Walk) (l : Latest) (c : Content) (
 free_takes s n k l c m s' n' k' c' comes take more =
     (comes, record { source = refl; held = refl; taken = more; walk = take.1; latest = refl }, take.0, take.2)
 
+-- so one more is taken after some others
+pub one_more
+    : (v : View) (a : Content) (s : Meaning) (n : ℕ) (k : Walk) (l : Latest) (c : Content) (m : Symbol) (s' : Meaning) (n' : ℕ) (k' : Walk) (c' : Content)
+    → (w : List Symbol) × TakesAll v a w c (free s n k l)
+    → Comes None s m s'
+    → Takes k c m (Ok tt) k' c'
+    → n' ≡ min (n + 1) 16_000_000
+    → (w : List Symbol) × TakesAll v a w c' (free s' n' k' l)
+one_more v a s n k l c m s' n' k' c' so_far comes take more =
+    (so_far.0 ++ (m ∷ []), takes_more v a so_far.0 c (free s n k l) m c' (free s' n' k' l) so_far.1 (free_takes s n k l c m s' n' k' c' comes take more))
+
 -- or finds the word ended
 pub free_ends : (s : Meaning) (n : ℕ) (k : Walk) (l : Latest) (c : Content) (s' : Meaning) (h : Option Symbol) → (s.told.modules ≡ []) × (s.told.ending ≡ clean) × (s' ≡ s) → h ≡ None → Steps (free s n k l) c ended c (record { source = s'; held = h; taken = n; walk = k; latest = Clean })
 free_ends s n k l c s' h d e =
