@@ -11,19 +11,21 @@ use Rattle.turtle.specs.declared.command.Command.TheVariants as command
 abbrev is : String → ℕ → Bool
 is t c = among c (codes t)
 
-abbrev pub turn_of : ℕ → Option Turn
-turn_of c =
-    cond (is "+" c) (Some Left)
-    (cond (is "-" c) (Some Right)
-    (cond (is "&" c) (Some Down)
+abbrev pub tilt_of : ℕ → Option Turn
+tilt_of c =
+    cond (is "&" c) (Some Down)
     (cond (is "^" c) (Some Up)
     (cond (is "\\" c) (Some RollLeft)
     (cond (is "/" c) (Some RollRight)
-    (cond (is "|" c) (Some About)
-    None))))))
+    None)))
 
 abbrev pub command_of : ℕ → Command
-command_of c = cond (is "F" c) Draw (for_others (turn_of c))
+command_of c =
+    cond (is "F" c) Draw
+    (cond (is "+" c) (command.Turn Left)
+    (cond (is "-" c) (command.Turn Right)
+    (cond (is "|" c) (command.Turn About)
+    (for_others (tilt_of c)))))
   where
     for_others : Option Turn → Command
     for_others (Some t) = command.Turn t

@@ -1,6 +1,6 @@
 // What a letter asks of the turtle.
 ghost use Rattle.std.specs.Prelude.{◌≡◌};
-ghost use Rattle.turtle.specs.Commands.{turn_of, command_of};
+ghost use Rattle.turtle.specs.Commands.{tilt_of, command_of};
 
 use super::turn::Turn;
 
@@ -13,20 +13,17 @@ pub enum Command {
     Nothing,
 }
 
-// The turn that a letter asks for. It is not inlined: together with the other letters it would be a jump by a table, and that takes
-// longer than a call wherever the processor does not foresee where such a jump leads.
+// The turn out of its plane that a letter asks for, if it asks for one. It is not inlined: together with the letters below it would be a
+// jump by a table, and that takes longer than a call wherever the processor does not foresee where such a jump leads.
 #[inline(never)]
-fn turn_of(letter: char) -> Option<Turn>
-    ensures { result ≡ turn_of letter }
+fn tilt_of(letter: char) -> Option<Turn>
+    ensures { result ≡ tilt_of letter }
 {
     match letter {
-        '+' => Some(Turn::Left),
-        '-' => Some(Turn::Right),
         '&' => Some(Turn::Down),
         '^' => Some(Turn::Up),
         '\\' => Some(Turn::RollLeft),
         '/' => Some(Turn::RollRight),
-        '|' => Some(Turn::About),
         _ => None,
     }
 }
@@ -39,7 +36,12 @@ impl From<char> for Command {
     fn from(letter: char) -> Command {
         match letter {
             'F' => Command::Draw,
-            letter => match turn_of(letter) {
+            '+' => Command::Turn(Turn::Left),
+            '-' => Command::Turn(Turn::Right),
+            '|' => Command::Turn(Turn::About),
+            // brackets are of the branches, and no letters of the turtle
+            '[' | ']' => Command::Nothing,
+            letter => match tilt_of(letter) {
                 Some(turn) => Command::Turn(turn),
                 None if letter == 'f' => Command::Move,
                 None => Command::Nothing,
