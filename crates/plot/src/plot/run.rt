@@ -1,5 +1,5 @@
 // A plot that is stepped until a step takes no module.
-ghost use Rattle.std.specs.Prelude.{◌≡◌, ◌≤◌};
+ghost use Rattle.std.specs.Prelude.{◌≡◌, ◌+◌, ◌≤◌, min};
 ghost use Rattle.std.specs.Option.{option_map};
 ghost use Rattle.word.specs.Records.{symbol_of};
 ghost use Rattle.plot.specs.Views.{view};
@@ -13,6 +13,15 @@ use sheet::sheet::Sheet;
 use walk::refusal::Refusal;
 use word::module::Module;
 use word::source::Source;
+
+// The number of modules taken, one more taken.
+#[inline(always)]
+fn counted(taken: u32) -> u32
+    requires { taken ≤ 16_000_000 }
+    ensures { result ≡ min (taken + 1) 16_000_000 }
+{
+    if taken < MOST { taken + 1 } else { taken }
+}
 
 impl<S: Source + Drop> Plot<S> {
     /// Steps until the word has ended clean, and else answers what stopped it.
@@ -50,9 +59,7 @@ impl<S: Source + Drop> Plot<S> {
             if let Err(refusal) = self.inner.walker.take(next, sheet) {
                 return Err(self.refused(next, taken, refusal));
             }
-            if taken < MOST {
-                taken += 1;
-            }
+            taken = counted(taken);
         }
     }
 
