@@ -21,6 +21,7 @@ use Rattle.book.specs.Books.{Among}
 use Rattle.book.specs.Winners.{says, decides, winner}
 use Rattle.books.specs.Outcomes.{Outcome, itself, grown, fault, with_first, successor, by_verdict, by_rule, becomes}
 use Rattle.books.specs.Nesting.{balanced, deepest}
+use Rattle.books.specs.Became.{BracketsNest}
 use Rattle.books.specs.Stored.{code_held, rule_in, listed, rules_in}
 use Rattle.books.specs.Kinds.{closed_book}
 use Rattle.book.proofs.Winning.{first_passes}
@@ -127,3 +128,7 @@ tidy b l s r w e = by (winner l s r us) refl e
     by : (o : Option Rule) → winner l s r us ≡ o → by_rule l s r o ≡ grown w → (balanced 0 w ≡ true) × (all_valid w ≡ true)
     by None q h = let z : ◌≡◌ {A = ℕ} 0 1 = cc in absurd (omega arith)
     by (Some u) q h = decided u (all_tidy (code_held b.contents.code) (listed b.contents.rules) u (first_passes (decides l s r) us u q).1) (says l s r u) h
+
+-- so what is written of a successor nests
+pub brackets_nest : (b : ClosedBook) (l : Option Symbol) (s : Symbol) (r : Option Symbol) (w : List Symbol) → becomes l s r (closed_book b).rules ≡ grown w → BracketsNest (becomes l s r (closed_book b).rules) w
+brackets_nest b l s r w e = subst (λ (o : Outcome). BracketsNest o w) (sym e) (tidy b l s r w e).0

@@ -1,9 +1,9 @@
 -- What is answered and written of what becomes of a module.
-use Rattle.std.specs.Prelude.{◌≡◌, ℕ, List, [], ◌∷◌, Ok, Err, Result}
+use Rattle.std.specs.Prelude.{◌≡◌, ℕ, true, List, [], ◌∷◌, Ok, Err, Result}
 use Rattle.word.specs.Symbols.{Symbol}
 use Rattle.expr.specs.declared.computed.Cause.{Cause}
 use Rattle.expr.specs.Records.{cause_number}
-use Rattle.books.specs.Nesting.{deepest}
+use Rattle.books.specs.Nesting.{balanced, deepest}
 use Rattle.books.specs.Outcomes.{Outcome, itself, grown, fault}
 
 -- a module s that stays as it is grows to itself
@@ -23,3 +23,9 @@ nesting (fault n) = 0
 abbrev pub Became : Symbol → Outcome → Result ℕ Cause → List Symbol → Type 0
 Became s o (Ok d) w = (settled s o ≡ grown w) × (d ≡ nesting o)
 Became s o (Err c) w = (o ≡ fault (cause_number c)) × (w ≡ [])
+
+-- of the outcome of a module: where it is a successor, the brackets of the modules w that are written nest
+abbrev pub BracketsNest : Outcome → List Symbol → Type 0
+BracketsNest itself w = Unit {0}
+BracketsNest (grown v) w = balanced 0 w ≡ true
+BracketsNest (fault n) w = Unit {0}

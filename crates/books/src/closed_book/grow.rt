@@ -7,7 +7,7 @@ ghost use Rattle.books.specs.Outcomes.{becomes};
 ghost use Rattle.books.specs.Ruled.{has_rule};
 ghost use Rattle.books.specs.Label.{Label};
 ghost use Rattle.books.specs.Contents.{book_in};
-ghost use Rattle.books.specs.Became.{Became};
+ghost use Rattle.books.specs.Became.{Became, BracketsNest};
 ghost use Rattle.books.specs.Few.{symbols_in};
 ghost use Rattle.books.specs.Kinds.{closed_book};
 ghost use Rattle.books.specs.Stored.{listed};
@@ -49,11 +49,12 @@ impl ClosedBook {
         self.rules_for(letter).next().is_some()
     }
 
-    /// Writes what becomes of a module between its neighbours: the modules of a successor, or the module itself where it stays
-    /// as it is; answers how deep a successor nests. Or nothing is written, and a fault ends the word. Of the rules that fit, the one
-    /// with more neighbours grows; then left before right; then the lower number.
+    /// Writes what becomes of a module between its neighbours: the modules of a successor, whose brackets nest, or the module
+    /// itself where it stays as it is; answers how deep a successor nests. Or nothing is written, and a fault ends the word. Of the
+    /// rules that fit, the one with more neighbours grows; then left before right; then the lower number.
     pub fn becomes(&self, site: Site, grown: &mut Modules, stack: &mut Stack) -> Result<u8, Cause>
         ensures value { Became (symbol_of site.module) (becomes (option_map symbol_of site.left) (symbol_of site.module) (option_map symbol_of site.right) (closed_book self.now).rules) result (symbols_in grown.new) }
+        ensures nested { BracketsNest (becomes (option_map symbol_of site.left) (symbol_of site.module) (option_map symbol_of site.right) (closed_book self.now).rules) (symbols_in grown.new) }
         ensures label { Label (closed_book self.now).rules (option_map symbol_of site.left) (symbol_of site.module) (option_map symbol_of site.right) }
         ensures emptied { on_stack stack.new ≡ [] }
     {

@@ -16,6 +16,7 @@ use Rattle.books.specs.Walking.{to_come}
 use Rattle.books.specs.Kinds.{closed_book}
 use Rattle.books.specs.Few.{modules_in, symbols_in}
 use Rattle.books.specs.Trying.{Tried}
+use Rattle.books.proofs.Tidy.{brackets_nest}
 use Rattle.books.proofs.Trying.{none_of}
 use Rattle.books.proofs.Winning.{label}
 use Rattle.books.proofs.Chaining.{some_within, only_becomes}
@@ -45,6 +46,9 @@ returns-in-Err-clause-label c = labelled c.args.self.now (option_map symbol_of c
 
 pub returns-in-Ok-Some-clause-label : goal.returns-in-Ok-Some-clause-label
 returns-in-Ok-Some-clause-label c = labelled c.args.self.now (option_map symbol_of c.args.site.left) (symbol_of c.args.site.module) (option_map symbol_of c.args.site.right)
+
+pub returns-in-Ok-Some-clause-nested : goal.returns-in-Ok-Some-clause-nested
+returns-in-Ok-Some-clause-nested c = brackets_nest c.args.self.now (option_map symbol_of c.args.site.left) (symbol_of c.args.site.module) (option_map symbol_of c.args.site.right) _ (search rules)
 
 pub returns-clause-label : goal.returns-clause-label
 returns-clause-label c = labelled c.args.self.now (option_map symbol_of c.args.site.left) (symbol_of c.args.site.module) (option_map symbol_of c.args.site.right)
