@@ -1,9 +1,10 @@
 // The answer to a job, as text.
 ghost use Rattle.std.specs.Prelude.{Some};
 ghost use Rattle.report.specs.Report.{Writes};
+ghost use Rattle.filling.specs.Orders.{Orders};
 ghost use Rattle.grow.specs.Printed.{order_text, answer_text};
 
-use filling::order::Order;
+use filling::order::{Order, order_of};
 use filling::refusal::JobRefusal;
 use pile::pile::pile_of;
 use runs::run::plot_word;
@@ -16,6 +17,15 @@ const LONGEST: usize = 160;
 #[derive(Clone, Copy)]
 pub struct Answer<'a> {
     pub order: Result<Order<'a>, JobRefusal>,
+}
+
+/// The answer to the job that some bytes are.
+pub fn answer_to(bytes: &[u8]) -> Answer<'_>
+    ensures { Orders bytes.now result.order }
+{
+    Answer {
+        order: order_of(bytes),
+    }
 }
 
 // Plots the word that an order grows to, writes the report to a buffer, and answers how long it is.

@@ -5,8 +5,7 @@ mod answer;
 #[cfg(test)]
 mod tests;
 
-use answer::Answer;
-use filling::order::order_of;
+use answer::answer_to;
 use job::job::LONGEST;
 use std::io;
 use std::io::{BufWriter, Read, Write};
@@ -16,7 +15,6 @@ fn main(rt: HostRuntime) -> io::Result<()> {
     let mut bytes = Vec::new(rt.alloc());
     rt.stdin().take(LONGEST as u64 + 1).read_to_end(&mut bytes)?;
     let mut out = BufWriter::new(rt.alloc(), rt.stdout())?;
-    let order = order_of(&bytes);
-    write!(out, "{}", Answer { order })?;
+    write!(out, "{}", answer_to(&bytes))?;
     out.flush()
 }

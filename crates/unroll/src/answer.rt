@@ -1,8 +1,9 @@
 // The answer to a job, as text.
 ghost use Rattle.std.specs.Prelude.{Some};
+ghost use Rattle.filling.specs.Orders.{Orders};
 ghost use Rattle.unroll.specs.Printed.{answer_text};
 
-use filling::order::Order;
+use filling::order::{Order, order_of};
 use filling::refusal::JobRefusal;
 use pile::pile::pile_of;
 use std::fmt;
@@ -12,6 +13,15 @@ use text::show::show_word;
 #[derive(Clone, Copy)]
 pub struct Answer<'a> {
     pub order: Result<Order<'a>, JobRefusal>,
+}
+
+/// The answer to the job that some bytes are.
+pub fn answer_to(bytes: &[u8]) -> Answer<'_>
+    ensures { Orders bytes.now result.order }
+{
+    Answer {
+        order: order_of(bytes),
+    }
 }
 
 impl fmt::Display for Answer<'_> {

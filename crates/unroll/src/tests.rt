@@ -1,13 +1,11 @@
-use crate::answer::Answer;
-use filling::order::order_of;
+use crate::answer::answer_to;
 use std::alloc::Global;
 use std::process::Abort;
 use std::test::Fail;
 
 // What is printed for a job.
 fn answers(rt: &impl Abort, heap: Global, job: &[u8], text: &str) -> Result<(), Fail> {
-    let order = order_of(job);
-    let answer = format!(in heap; "{}", Answer { order })?;
+    let answer = format!(in heap; "{}", answer_to(job))?;
     assert_eq!(rt; answer.as_str(), text);
     Ok(())
 }
