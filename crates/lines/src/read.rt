@@ -34,7 +34,9 @@ fn letters(reader: &mut Reader) -> Result<Letters, Refusal>
     Ok(letters)
 }
 
-// A rule, to the end of the line.
+// A rule, to the end of the line. Not inlined, and neither is `read`: a line would be put together from pieces of itself, each zeroed and
+// copied by itself.
+#[inline(never)]
 fn rule(reader: &mut Reader) -> Result<Draft, Refusal>
     requires { length (unread reader.old) ≤ 200 }
     ensures { ReadsRule result reader.old }
@@ -55,6 +57,7 @@ fn rule(reader: &mut Reader) -> Result<Draft, Refusal>
 }
 
 /// What a line says, or why it cannot be read.
+#[inline(never)]
 pub fn read(line: &[u8]) -> Result<Line, Refusal>
     ensures { Reads line.now result }
 {
@@ -63,10 +66,8 @@ pub fn read(line: &[u8]) -> Result<Line, Refusal>
     }
     let mut reader = Reader::new(line);
     if takes(&mut reader, Sign::Ignores) {
-        let ignored = letters(&mut reader)?;
-        Ok(Line::Ignores(ignored))
+        Ok(Line::Ignores(letters(&mut reader)?))
     } else {
-        let draft = rule(&mut reader)?;
-        Ok(Line::Rule(draft))
+        Ok(Line::Rule(rule(&mut reader)?))
     }
 }

@@ -1,17 +1,11 @@
 -- What the records of the reader hold. Internal.
 use Rattle.std.specs.Prelude.{ℕ, Ok, Err, Result}
-use Rattle.rows.specs.Rows.{held}
 use Rattle.word.specs.declared.depth.Depth.{Depth}
 use Rattle.word.specs.declared.module.Module.{Module}
-use Rattle.word.specs.Symbols.{Symbol}
 use Rattle.word.specs.Records.{symbol_of}
 use Rattle.seed.specs.declared.cause.Cause.{Cause}
 use Rattle.seed.specs.declared.cause.Cause.TheVariants.{TooLong, Form, Range, NoneOpen, TooDeep, StillOpen}
-use Rattle.seed.specs.declared.module.Draft.{Draft}
 use Rattle.seed.specs.Seeds.{Outcome, tells, wrong}
-
-abbrev pub drafted : Draft → Symbol
-drafted d = record { letter = d.letter; params = held d.parameters }
 
 -- the cause of a fault, by its number
 abbrev pub cause_number : Cause → ℕ

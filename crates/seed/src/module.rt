@@ -1,10 +1,11 @@
 // One module of a text.
-ghost use Rattle.std.specs.Prelude.{◌≡◌, ◌<◌, ◌≤◌, false, ◌∷◌, length, take, drop, IfOk};
-ghost use Rattle.std.specs.Option.{option_map};
+ghost use Rattle.std.specs.Prelude.{◌≡◌, ◌<◌, ◌≤◌, false, [], ◌∷◌, length, take, drop, Some, None, IfOk, MatchOption};
+ghost use Rattle.rows.specs.Rows.{held};
+ghost use Rattle.word.specs.Symbols.{symbol_with};
 ghost use Rattle.word.specs.Records.{symbol_of};
 ghost use Rattle.word.specs.Words.{after};
 ghost use Rattle.seed.specs.Seeds.{cut, form, outcome};
-ghost use Rattle.seed.specs.Parts.{drafted, outcome_of};
+ghost use Rattle.seed.specs.Parts.{outcome_of};
 
 use super::cause::Cause;
 use super::parameters::read_list;
@@ -13,13 +14,6 @@ use word::bytes::find;
 use word::depth::Depth;
 use word::letters::{is_bracket, is_letter};
 use word::module::Module;
-
-/// A letter or bracket and its parameters, of whatever size.
-#[derive(Clone, Copy)]
-pub struct Draft {
-    letter: u8,
-    parameters: Row<i32, 3>,
-}
 
 // How many bytes the first module of a text has.
 pub(crate) fn own_len(text: &[u8]) -> usize
@@ -37,19 +31,18 @@ pub(crate) fn own_len(text: &[u8]) -> usize
     }
 }
 
-// The module by its form, its parameters not yet held to their range.
-fn read_form(own: &[u8]) -> Option<Draft>
-    ensures { option_map drafted result ≡ form own.now }
+// The letter of a module by its form. Its parameters, not yet held to their range, are put onto a row that is lent: a row that is
+// answered would be copied several times for each module.
+fn read_form(own: &[u8], parameters: &mut Row<i32, 3>) -> Option<u8>
+    requires { held parameters.old ≡ [] }
+    ensures { MatchOption result (form own.now ≡ None) (λ letter. form own.now ≡ Some (symbol_with letter (held parameters.new))) }
 {
     match own {
-        [letter] if is_bracket(*letter) || is_letter(*letter) => Some(Draft {
-            letter: *letter,
-            parameters: Row::new(0),
-        }),
-        [letter, _, list @ ..] if is_letter(*letter) => Some(Draft {
-            letter: *letter,
-            parameters: read_list(list.strip_suffix(b")")?)?,
-        }),
+        [letter] if is_bracket(*letter) || is_letter(*letter) => Some(*letter),
+        [letter, _, list @ ..] if is_letter(*letter) => {
+            read_list(list.strip_suffix(b")")?, parameters)?;
+            Some(*letter)
+        }
         _ => None,
     }
 }
@@ -59,13 +52,20 @@ pub(crate) fn read_module(own: &[u8], depth: Depth) -> Result<(Module, Depth), C
     ensures told { outcome_of result ≡ outcome depth.brackets own.now }
     ensures behind { IfOk result (λ r. r.1.brackets ≡ after depth.brackets (symbol_of r.0)) }
 {
-    let draft = read_form(own).ok_or(Cause::Form)?;
-    let module = Module::new(draft.letter, draft.parameters.as_slice()).ok_or(Cause::Range)?;
+    let mut parameters = Row::new(0);
+    let Some(letter) = read_form(own, &mut parameters) else {
+        return Err(Cause::Form);
+    };
+    let Some(module) = Module::new(letter, parameters.as_slice()) else {
+        return Err(Cause::Range);
+    };
     let bracketed = if module.letter == b']' {
         Cause::NoneOpen
     } else {
         Cause::TooDeep
     };
-    let after = depth.after(module).ok_or(bracketed)?;
-    Ok((module, after))
+    match depth.after(module) {
+        Some(after) => Ok((module, after)),
+        None => Err(bracketed),
+    }
 }

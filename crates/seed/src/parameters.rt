@@ -1,5 +1,5 @@
 // Up to three parameters, as they are read.
-ghost use Rattle.std.specs.Prelude.{◌≡◌, pos};
+ghost use Rattle.std.specs.Prelude.{◌≡◌, pos, [], Some, None, MatchOption};
 ghost use Rattle.std.specs.Option.{option_map};
 ghost use Rattle.word.specs.Text.{number};
 ghost use Rattle.seed.specs.Seeds.{integer, parameters};
@@ -26,11 +26,11 @@ fn integer(text: &[u8]) -> Option<i32>
     }
 }
 
-// The parameters of a list, if it is one of 1 to 3 that are split by commas.
-pub(crate) fn read_list(list: &[u8]) -> Option<Row<i32, 3>>
-    ensures { option_map held result ≡ parameters list.now }
+// Puts the parameters of a list onto an empty row, if it is a list of 1 to 3 that are split by commas.
+pub(crate) fn read_list(list: &[u8], found: &mut Row<i32, 3>) -> Option<()>
+    requires { held found.old ≡ [] }
+    ensures { MatchOption result (parameters list.now ≡ None) (λ _. parameters list.now ≡ Some (held found.new)) }
 {
-    let mut found = Row::new(0);
     for part in list.split(|b| *b == b',') {
         let parameter = integer(part)?;
         if found.len() == 3 {
@@ -38,5 +38,5 @@ pub(crate) fn read_list(list: &[u8]) -> Option<Row<i32, 3>>
         }
         found.push(parameter);
     }
-    Some(found)
+    Some(())
 }

@@ -1,14 +1,13 @@
 -- The number that digits write.
-use Rattle.std.proofs.Common.{◌≡◌, ℕ, ◌<◌, ◌≤◌, Bool, true, false, ◌&&◌, List, [], ◌∷◌, length, get_or, leb, Some, None, Ok, Result, refl, ap, sym, ◌∙◌, arith, rules}
+use Rattle.std.proofs.Common.{◌≡◌, ℕ, ◌+◌, ◌-◌, ◌*◌, ◌^◌, ◌<◌, ◌≤◌, Bool, true, false, ◌&&◌, List, [], ◌∷◌, length, get_or, drop, leb, Some, None, refl, ap, sym, ◌∙◌, add-one, arith, rules}
+use native.Mathlib.Nat.{pow-succ', pow-le-pow_right}
 use Rattle.std.proofs.lemmas.Bool.{and_parts, cond-true, cond-false, leb-true}
 use Rattle.std.specs.Char.{is_ascii_digit}
 use Rattle.std.specs.Int.{IsInRange}
 use Rattle.std.specs.List.{list_all}
-use Rattle.std.specs.Str.{IsUtf8, all_ascii_digits}
-use Rattle.std.specs.Str.Parse.{ParsesUnsigned}
-use Rattle.std.proofs.lemmas.Fmt.{IsAscii-from_digits}
-use Rattle.std.proofs.lemmas.Str.{IsUtf8-from_ascii}
-use Rattle.std.proofs.lemmas.Str.Parse.{IsNumeralModel, numerals_by_fold, tells_all_ascii_digits, digit_at, digits_value_short, parse_gives}
+use Rattle.std.specs.Str.{all_ascii_digits}
+use Rattle.std.proofs.lemmas.List.{drop_more, drop_all}
+use Rattle.std.proofs.lemmas.Str.Parse.{IsNumeralModel, numerals_by_fold, tells_all_ascii_digits, digit_at, digits_value_short}
 use Rattle.word.specs.Text.{worth, worth_after, number}
 
 pub own : IsNumeralModel (λ ds. all_ascii_digits ds ≡ true) worth
@@ -16,6 +15,26 @@ own = numerals_by_fold _ tells_all_ascii_digits worth_after (search rules)
 
 pub digit : (ds : List ℕ) (i : ℕ) → all_ascii_digits ds ≡ true → i < length ds → IsInRange 48 57 (get_or ds i 0)
 digit ds i all h = digit_at ds i (own.to ds all) h
+
+pub small : (n i k : ℕ) → n < 10 ^ i → i < k → k ≤ 7 → n < 1000000
+small n i k h below short =
+    let six : i ≤ 6 = omega arith in
+    let ten : 0 < 10 = omega arith in
+    let p : 10 ^ i ≤ 10 ^ 6 = pow-le-pow_right ten six in
+    omega arith
+
+pub grows : (n i d : ℕ) → n < 10 ^ i → d ≤ 57 → 10 * n + (d - 48) < 10 ^ (i + 1)
+grows n i d h k = rw (add-one, pow-succ') (omega arith)
+
+pub goes_on : (ds : List ℕ) (n i : ℕ) → i < length ds → worth_after n (drop i ds) ≡ worth ds → worth_after (10 * n + (get_or ds i 0 - 48)) (drop (i + 1) ds) ≡ worth ds
+goes_on ds n i h e = sym (ap (worth_after n) (drop_more ds i 0 h)) ∙ e
+
+pub at_end : (ds : List ℕ) (n i : ℕ) → length ds ≤ i → worth_after n (drop i ds) ≡ worth ds → n ≡ worth ds
+at_end ds n i h e = sym (ap (worth_after n) (drop_all i ds h)) ∙ e
+
+-- seven digits at most
+pub below_ten_million : (ds : List ℕ) → all_ascii_digits ds ≡ true → length ds ≤ 7 → worth ds < 10000000
+below_ten_million ds all short = omega (arith, digits_value_short own ds 7 all short)
 
 pub each_digit : (ds : List ℕ) → list_all is_ascii_digit ds ≡ all_ascii_digits ds
 each_digit [] = refl
@@ -42,24 +61,11 @@ module _ (ds : List ℕ) (is : is_number ds ≡ true) where
   parts : (leb 1 (length ds) && leb (length ds) 7 ≡ true) × (list_all is_ascii_digit ds ≡ true)
   parts = and_parts (leb 1 (length ds) && leb (length ds) 7) _ is
 
-  all : all_ascii_digits ds ≡ true
+  pub all : all_ascii_digits ds ≡ true
   all = sym (each_digit ds) ∙ parts.1
 
-  some : 1 ≤ length ds
-  some = leb-true 1 (length ds) (and_parts (leb 1 (length ds)) _ parts.0).0
-
-  short : length ds ≤ 7
+  pub short : length ds ≤ 7
   short = leb-true (length ds) 7 (and_parts (leb 1 (length ds)) _ parts.0).1
-
-  pub is_text : IsUtf8 ds
-  is_text = IsUtf8-from_ascii ds (IsAscii-from_digits ds (own.to ds all))
-
-  -- seven digits at most
-  pub below_ten_million : worth ds < 10000000
-  below_ten_million = omega (arith, digits_value_short own ds 7 all short)
-
-  pub parsed : {E : Type 0} (r : Result ℕ E) → ParsesUnsigned 32 10 ds r → r ≡ Ok (worth ds)
-  parsed r h = parse_gives own 32 ds r h all some (omega (arith, below_ten_million))
 
   pub is_some : number ds ≡ Some (worth ds)
   is_some = cond-true _ (Some (worth ds)) None (same_test ds ∙ is)

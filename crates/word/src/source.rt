@@ -21,14 +21,15 @@ pub trait Source {
     fn draw_some(&mut self, places: &mut [Module]) -> Result<usize, Fault>
         ensures { DrawsSome (means self.old) places.old result places.new (means self.new) }
     {
-        if places.is_empty() {
-            return Ok(0);
+        for count in 0..places.len() {
+            match self.draw() {
+                Ok(Some(module)) => places[count] = module,
+                Ok(None) => return Ok(count),
+                // a fault behind other modules is answered by the next draw
+                Err(fault) => return if count == 0 { Err(fault) } else { Ok(count) },
+            }
         }
-        let Some(module) = self.draw()? else {
-            return Ok(0);
-        };
-        places[0] = module;
-        Ok(1)
+        Ok(places.len())
     }
 
     /// How many brackets are open now.

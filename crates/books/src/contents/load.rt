@@ -22,6 +22,8 @@ const MOST_RULES: usize = 48;
 const MOST_PLACES: usize = 1024;
 
 impl Contents {
+    // Not inlined: a book is put together in one place, and copied from there whole.
+    #[inline(never)]
     pub(crate) fn new() -> Contents
         ensures { book_in result ≡ empty }
     {

@@ -31,8 +31,8 @@ impl OpenBook {
         ensures { Loads line.now (open_book self.old) (answer_number result) (open_book self.new) }
     {
         let said = read(line)?;
-        match said {
-            Line::Rule(draft) => self.add(&draft),
+        match &said {
+            Line::Rule(draft) => self.add(draft),
             Line::Ignores(letters) => {
                 self.contents.ignore(letters.as_slice());
                 Ok(())

@@ -56,21 +56,25 @@ impl<'a> Parser<'a> {
         requires { left self.old ≢ [] }
         ensures { ReadsPiece result self.old self.new }
     {
-        if takes(&mut self.reader, Sign::Branches) {
-            return Ok(Piece {
-                letter: b'[',
-                count: 0,
-                places: 0,
-            });
+        match self.reader.sign() {
+            Some(Sign::Branches) => {
+                self.reader.pass();
+                Ok(Piece {
+                    letter: b'[',
+                    count: 0,
+                    places: 0,
+                })
+            }
+            Some(Sign::Rejoins) => {
+                self.reader.pass();
+                Ok(Piece {
+                    letter: b']',
+                    count: 0,
+                    places: 0,
+                })
+            }
+            _ => self.grown(),
         }
-        if takes(&mut self.reader, Sign::Rejoins) {
-            return Ok(Piece {
-                letter: b']',
-                count: 0,
-                places: 0,
-            });
-        }
-        self.grown()
     }
 
     /// Brackets and letters to the end of the line.

@@ -49,13 +49,15 @@ impl<'a> Source for Seed<'a> {
         }
         let rest = &text[self.at..];
         let size = own_len(rest);
-        let (module, depth) = read_module(&rest[0..size], self.depth).map_err(|cause| cause.at(
-            place,
-        ))?;
-        self.at += size;
-        self.told += 1;
-        self.depth = depth;
-        Ok(Some(module))
+        match read_module(&rest[0..size], self.depth) {
+            Ok((module, depth)) => {
+                self.at += size;
+                self.told += 1;
+                self.depth = depth;
+                Ok(Some(module))
+            }
+            Err(cause) => Err(cause.at(place)),
+        }
     }
 
     fn open_brackets(&self) -> Depth {

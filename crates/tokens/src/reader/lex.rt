@@ -11,6 +11,7 @@ use super::super::token::{Sign, Token};
 use super::Reader;
 
 // How many spaces stand first.
+#[inline(always)]
 fn gap(text: &[u8]) -> usize
     ensures count { result ≡ prefix_len is_space text.now }
     ensures within { result ≤ length text.now }
@@ -26,6 +27,7 @@ fn digits(text: &[u8]) -> usize
 }
 
 // The token that stands first, and its length.
+#[inline(always)]
 fn first(text: &[u8]) -> Option<(Token<'_>, usize)>
     requires { prefix_len is_space text.now ≡ 0 }
     ensures { MatchOption result (text.now ≡ []) (λ first. Leads text.now first.0 first.1) }
@@ -54,6 +56,7 @@ impl<'a> Reader<'a> {
     }
 
     /// The sign that the next token is, if it is one.
+    #[inline(always)]
     pub fn sign(&self) -> Option<Sign>
         ensures { result ≡ leading (unread self.now) }
     {
@@ -81,6 +84,7 @@ impl<'a> Iterator for Reader<'a> {
 
     ghost remaining = { item_count unread };
 
+    #[inline(always)]
     fn next(&mut self) -> Option<Token<'a>> {
         self.at += gap(&self.line[self.at..]);
         let (token, size) = first(&self.line[self.at..])?;

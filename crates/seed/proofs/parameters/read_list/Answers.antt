@@ -11,13 +11,13 @@ use Rattle.seed.proofs.parameters.read_list.Goals as goal
 pub returns-in_err-parameter : goal.returns-in_err-parameter
 returns-in_err-parameter c =
     let t = turn _ c.loop-part.yielded c.loop-part.part-iterator c.loop-part.yielded_by c.next.result c.next.new.self c.next.ensures.steps c.args.list.now (search rules) (search rules) c.in-Some.part c.in-Some.is (λ x b q k. search (rules, tests)) in
-    rw (c.from_residual.ensures) (sym (ap at_most_3 (integers_none _ _ c.in-Some.part.now t.0 t.1 (sym c.integer.ensures ∙ c.in_err-parameter.was))))
+    rw (c.from_residual.ensures) (ap at_most_3 (integers_none _ _ c.in-Some.part.now t.0 t.1 (sym c.integer.ensures ∙ c.in_err-parameter.was)))
 
 pub returns-then-len-eq3 : goal.returns-then-len-eq3
 returns-then-len-eq3 c =
     let t = turn _ c.loop-part.yielded c.loop-part.part-iterator c.loop-part.yielded_by c.next.result c.next.new.self c.next.ensures.steps c.args.list.now (search rules) (search rules) c.in-Some.part c.in-Some.is (λ x b q k. search (rules, tests)) in
     let so_far : length (held c.loop-part.found) ≡ length c.loop-part.yielded = integers_length _ _ c.loop-part.invariant ∙ length-map c.loop-part.yielded _ in
-    sym (too_many c.args.list.now (omega (arith, t.0, c.len.ensures, c.if-len-eq3.true)))
+    too_many c.args.list.now (omega (arith, t.0, c.len.ensures, c.if-len-eq3.true))
 
 pub loop-part-preserved : goal.loop-part-preserved
 loop-part-preserved c =
@@ -32,4 +32,4 @@ loop-part-preserved c =
 pub returns : goal.returns
 returns c =
     let w = whole _ c.loop-part.yielded c.loop-part.part-iterator c.loop-part.yielded_by c.next.result c.next.new.self c.next.ensures.steps c.args.list.now (search rules) (search rules) c.in-None.is (λ x b q k. search (rules, tests)) in
-    sym (few_enough c.args.list.now (held c.loop-part.found) (rw (← w) c.loop-part.invariant) (within c.loop-part.found))
+    few_enough c.args.list.now (held c.loop-part.found) (rw (← w) c.loop-part.invariant) (within c.loop-part.found)

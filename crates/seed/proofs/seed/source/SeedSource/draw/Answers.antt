@@ -15,14 +15,14 @@ module _ (text : List ℕ) (at size : ℕ) where
   own_of : (d : ℕ) (o : Outcome) → o ≡ outcome d (take (size - 0) (take (length text - at) (drop at text))) → outcome d (take size (drop at text)) ≡ o
   own_of d o e = sym (e ∙ ap (λ k. outcome d (take k (take (length text - at) (drop at text)))) (sub-zero size) ∙ ap (λ l. outcome d (take size l)) (take_rest text at))
 
-pub returns : goal.returns
-returns c =
+pub returns-in-Ok : goal.returns-in-Ok
+returns-in-Ok c =
     let s = c.args.self.now in
     let size = c.own_len-size.result in
-    let read : tells (symbol_of c.in_ok-module.module) ≡ outcome s.depth.brackets (take (size - 0) (take (length s.text.now - s.at) (drop s.at s.text.now))) = search rules in
-    let behind : c.in_ok-module.depth.brackets ≡ after s.depth.brackets (symbol_of c.in_ok-module.module) = search rules in
+    let read : tells (symbol_of c.in-Ok.module) ≡ outcome s.depth.brackets (take (size - 0) (take (length s.text.now - s.at) (drop s.at s.text.now))) = search rules in
+    let behind : c.in-Ok.depth.brackets ≡ after s.depth.brackets (symbol_of c.in-Ok.module) = search rules in
     goes_on s.text.now (omega arith) s.at s.told s.depth.brackets size
     (first_of s.text.now s.at size c.own_len-size.ensures.first)
-    c.in_ok-module.module c.in_ok-module.depth.brackets
+    c.in-Ok.module c.in-Ok.depth.brackets
     (own_of s.text.now s.at size s.depth.brackets _ read)
     behind
