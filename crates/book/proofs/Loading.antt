@@ -11,14 +11,14 @@ or_swap true true z = refl
 or_swap true false z = refl
 or_swap false y z = refl
 
-two_entries : (d e : Entry) (b : Book) → Differs d e → with_entry e (with_entry d b) ≡ with_entry d (with_entry e b)
+pub two_entries : (d e : Entry) (b : Book) → Differs d e → with_entry e (with_entry d b) ≡ with_entry d (with_entry e b)
 two_entries (rule u) (rule v) b n = ap (λ (l : List Rule). record { rules = l; ignored = b.ignored }) (commute u v n b.rules)
 two_entries (rule u) (ignores cs) b n = refl
 two_entries (ignores cs) (rule v) b n = refl
 two_entries (ignores cs) (ignores ds) b n =
     ap (λ (f : ℕ → Bool). record { rules = b.rules; ignored = f }) (fun_ext (λ c. or_swap (among c ds) (among c cs) (b.ignored c)))
 
-differs_sym : (d e : Entry) → Differs d e → Differs e d
+pub differs_sym : (d e : Entry) → Differs d e → Differs e d
 differs_sym (rule u) (rule v) n = λ q. n (sym q)
 differs_sym (rule u) (ignores cs) n = tt
 differs_sym (ignores cs) (rule v) n = tt

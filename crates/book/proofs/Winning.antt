@@ -187,7 +187,7 @@ same_ranks None None (Some c) None h = absurd (omega arith)
 same_ranks None None None (Some d) h = absurd (omega arith)
 same_ranks None None None None h = (refl, refl)
 
-in_words : (u v : Rule) → precedes u v ≡ true → GrowsBefore u v
+pub in_words : (u v : Rule) → precedes u v ≡ true → GrowsBefore u v
 in_words u v h = go (or_cases (ltb (rank_of u) (rank_of v)) (eqb (rank_of u) (rank_of v) && ltb u.number v.number) h)
   where
     wide : (neighbours v < neighbours u) ⊎ ((neighbours u ≡ neighbours v) × (is_some u.before ≡ true) × (is_some v.before ≡ false)) → GrowsBefore u v

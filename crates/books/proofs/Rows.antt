@@ -7,7 +7,7 @@ pub item_at : {A : Type 0} (xs : List A) (i : ℕ) (x : A) → i < length xs →
 item_at {A = A} xs i x h e = drop_more xs i x h ∙ ap (λ (y : A). y ∷ drop (i + 1) xs) (sym e)
 
 module _ {A : Type 0} (row : List A) (used : ℕ) where
-  length_held : {n : ℕ} → length row ≡ n → used ≤ n → length (take used row) ≡ used
+  pub length_held : {n : ℕ} → length row ≡ n → used ≤ n → length (take used row) ≡ used
   length_held w s = length-take-le used row (omega arith)
 
   -- a part of what is filled

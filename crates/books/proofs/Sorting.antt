@@ -9,7 +9,7 @@ use Rattle.books.specs.Kept.{leads, ascending}
 use Rattle.book.proofs.Winning.{Sorted, sorted_with}
 
 -- each rule goes before all behind it
-leads_all : (u : Rule) (vs : List Rule) → leads u vs ≡ true → (x : Rule) → Among x vs → precedes u x ≡ true
+pub leads_all : (u : Rule) (vs : List Rule) → leads u vs ≡ true → (x : Rule) → Among x vs → precedes u x ≡ true
 leads_all u [] h x i = absurd i
 leads_all u (v ∷ vs) h x (inl e) = subst (λ (y : Rule). precedes u y ≡ true) (sym e) (and_parts (precedes u v) (leads u vs) h).0
 leads_all u (v ∷ vs) h x (inr i) = leads_all u vs (and_parts (precedes u v) (leads u vs) h).1 x i

@@ -5,7 +5,7 @@ use lib.Signed.{mag, quot_z}
 use Rattle.std.proofs.lemmas.Int.{to_z-of_z, ints}
 use Rattle.std.proofs.lemmas.Bool.{ne_eqb}
 
-wide : (x : ℤ) → SFits w32 x → to_z w64 (of_z w64 (to_z w32 (of_z w32 x))) ≡ x
+pub wide : (x : ℤ) → SFits w32 x → to_z w64 (of_z w64 (to_z w32 (of_z w32 x))) ≡ x
 wide x f = ap (λ v. to_z w64 (of_z w64 v)) (to_z-of_z w32 x f) ∙ to_z-of_z w64 x (record { sfits = omega (arith, f.sfits) })
 
 sum_fits : (x y : ℤ) → SFits w32 x → SFits w32 y → SFits w64 (x +ℤ y)

@@ -15,7 +15,7 @@ near : (v : Vector) → all_in_bounds v ≡ true → (nat_abs v.x ≤ 30_000) ×
 near v h = (grind (arith, nat_tests), grind (arith, nat_tests), grind (arith, nat_tests))
 
 -- a coordinate fits 16 bits
-fits : (z : ℤ) → nat_abs z ≤ 30_000 → twos 16 z < 2 ^ 16
+pub fits : (z : ℤ) → nat_abs z ≤ 30_000 → twos 16 z < 2 ^ 16
 fits (pos n) h = omega arith
 fits (negsuc n) h = omega arith
 
@@ -37,10 +37,10 @@ module _ (x y z h l : ℕ) (fx : x < 2 ^ 16) (fy : y < 2 ^ 16) (fz : z < 2 ^ 16)
   small : whole < 256 ^ 8
   small = omega arith
 
-  taken_apart : (cut 48 16 whole ≡ x) × (cut 32 16 whole ≡ y) × (cut 16 16 whole ≡ z) × (cut 13 3 whole ≡ h) × (cut 1 12 whole ≡ l)
+  pub taken_apart : (cut 48 16 whole ≡ x) × (cut 32 16 whole ≡ y) × (cut 16 16 whole ≡ z) × (cut 13 3 whole ≡ h) × (cut 1 12 whole ≡ l)
   taken_apart = (omega arith, omega arith, omega arith, omega arith, omega arith)
 
-  whole_again : number (last_bytes 8 whole) ≡ whole
+  pub whole_again : number (last_bytes 8 whole) ≡ whole
   whole_again = numbered 8 whole small
 
 -- a direction fits 3 bits

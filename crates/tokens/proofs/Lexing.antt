@@ -9,7 +9,7 @@ use Rattle.tokens.specs.declared.token.Token.TheVariants.{Number, Sign}
 use Rattle.tokens.specs.Readers.{Leads}
 use Rattle.tokens.specs.Tokens.{number, sign, is_space, is_digit, is_name, pairs, lone, sign_of, is_sign, single, joined, tokens}
 
-digit_alone : (b : ℕ) → is_digit b ≡ true → single b ≡ number (b ∷ []) ∷ []
+pub digit_alone : (b : ℕ) → is_digit b ≡ true → single b ≡ number (b ∷ []) ∷ []
 digit_alone b h = let s : is_space b ≡ false = grind (arith, nat_tests) in rw (s, h)
 
 digit_unpaired : (b c : ℕ) → is_digit b ≡ true → pairs b c ≡ false
@@ -44,11 +44,11 @@ no_more (b ∷ l) = go (is_space b) refl (no_more l)
 pub unjoined : (b c : ℕ) (bs : List ℕ) → (is_digit b && is_digit c) ≡ false → pairs b c ≡ false → tokens (b ∷ c ∷ bs) ≡ single b ++ tokens (c ∷ bs)
 unjoined b c bs d p = rw (d, p)
 
-both_digits : (b c : ℕ) (bs : List ℕ) → is_digit b ≡ true → is_digit c ≡ true → tokens (b ∷ c ∷ bs) ≡ joined b (tokens (c ∷ bs))
+pub both_digits : (b c : ℕ) (bs : List ℕ) → is_digit b ≡ true → is_digit c ≡ true → tokens (b ∷ c ∷ bs) ≡ joined b (tokens (c ∷ bs))
 both_digits b c bs d e = rw (d, e)
 
 -- a digit, and then none
-digit_ends : (b c : ℕ) (bs : List ℕ) → is_digit b ≡ true → is_digit c ≡ false → tokens (b ∷ c ∷ bs) ≡ number (b ∷ []) ∷ tokens (c ∷ bs)
+pub digit_ends : (b c : ℕ) (bs : List ℕ) → is_digit b ≡ true → is_digit c ≡ false → tokens (b ∷ c ∷ bs) ≡ number (b ∷ []) ∷ tokens (c ∷ bs)
 digit_ends b c bs d e =
     let de : (is_digit b && is_digit c) ≡ false = rw (d, e) in
     unjoined b c bs de (digit_unpaired b c d) ∙ ap (λ ts. ts ++ tokens (c ∷ bs)) (digit_alone b d)
