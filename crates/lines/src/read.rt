@@ -34,8 +34,8 @@ fn letters(reader: &mut Reader) -> Result<Letters, Refusal>
     Ok(letters)
 }
 
-// A rule, to the end of the line. Not inlined, and neither is `read`: a line would be put together from pieces of itself, each zeroed and
-// copied by itself.
+// A rule, to the end of the line. Not inlined, and neither is `read`: a line would be put together from pieces of itself, each
+// zeroed and copied by itself.
 #[inline(never)]
 fn rule(reader: &mut Reader) -> Result<Draft, Refusal>
     requires { length (unread reader.old) ≤ 200 }

@@ -47,7 +47,8 @@ fn read_form(own: &[u8], parameters: &mut Row<i32, 3>) -> Option<u8>
     }
 }
 
-// The module that these bytes are, and the depth behind it.
+// The module that these bytes are, and the depth behind it. By `ok_or` and `?` a bare letter takes half as long again, since what is
+// handed on is copied each time.
 pub(crate) fn read_module(own: &[u8], depth: Depth) -> Result<(Module, Depth), Cause>
     ensures told { outcome_of result ≡ outcome depth.brackets own.now }
     ensures behind { IfOk result (λ r. r.1.brackets ≡ after depth.brackets (symbol_of r.0)) }

@@ -12,7 +12,7 @@ fn is_number(text: &[u8]) -> bool
     1 <= text.len() && text.len() <= 7 && text.iter().all(|b| b.is_ascii_digit())
 }
 
-// The number that at most 7 digits write. A loop: by way of `from_utf8` and `parse` each number took twice as long.
+// The number that at most 7 digits write. A loop: by way of `from_utf8` and `parse` a number takes half as long again.
 fn value(digits: &[u8]) -> u32
     requires short { length digits.now ≤ 7 }
     requires all { all_ascii_digits digits.now ≡ true }

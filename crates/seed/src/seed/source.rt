@@ -49,6 +49,7 @@ impl<'a> Source for Seed<'a> {
         }
         let rest = &text[self.at..];
         let size = own_len(rest);
+        // matched for the reason that `read_module` has
         match read_module(&rest[0..size], self.depth) {
             Ok((module, depth)) => {
                 self.at += size;
